@@ -1,0 +1,5 @@
+mod Working
+mod Room
+mod Firing
+mod Chaining
+mod Keeping
