@@ -1,0 +1,11 @@
+mod Tables
+mod Outputs
+mod Leasts
+mod Fills
+mod Marking
+mod Knowing
+mod Standings
+mod Sames
+mod Rounding
+mod Clashing
+mod Ending

@@ -1,0 +1,4 @@
+pub mod Rounds
+pub mod Unknown
+pub mod Ends
+pub mod Narrowings

@@ -1,0 +1,4 @@
+pub mod Marking
+pub mod Nodes
+pub mod Programs
+pub mod Visits
