@@ -1,0 +1,4 @@
+pub mod Wholes
+pub mod Openings
+pub mod Sayings
+pub mod Declarations

@@ -1,0 +1,5 @@
+mod Numbers
+mod Laying
+mod Entries
+mod Lines
+mod Loading
