@@ -6,14 +6,14 @@
 ghost use Rattle.std.specs.Prelude.{◌≡◌, length};
 ghost use Rattle.semantics.specs.Plans.{over};
 ghost use Rattle.semantics.specs.Alternating.{marks_in, widest};
-ghost use Rattle.deriving.specs.Rulesets.{rules_in, atoms_in};
+ghost use Rattle.derivation.specs.Rulesets.{rules_in, atoms_in};
 ghost use Rattle.bounds.specs.Rounds.{pair};
 ghost use Rattle.bounds.specs.Narrowings.{NarrowedTo};
 
 use crate::bank::query_between;
 use crate::marks::widen;
 use crate::round::{RoundEnd, round};
-use deriving::ruleset::Ruleset;
+use derivation::ruleset::Ruleset;
 use modules::query::Module;
 
 // Writes the pair at which the rounds under the marks end. What the two sets held before is not used.

@@ -5,11 +5,11 @@ ghost use Rattle.semantics.specs.Plans.{is_plan, over};
 ghost use Rattle.semantics.specs.Rules.{least};
 ghost use Rattle.semantics.specs.Sets.{same};
 ghost use Rattle.semantics.specs.Banks.{gives};
-ghost use Rattle.deriving.specs.Rulesets.{rules_in, atoms_in};
+ghost use Rattle.derivation.specs.Rulesets.{rules_in, atoms_in};
 
 use crate::bank::query_at;
 use crate::sets::is_same;
-use deriving::ruleset::Ruleset;
+use derivation::ruleset::Ruleset;
 use modules::query::Module;
 
 // Whether a set is a plan.

@@ -6,13 +6,13 @@
 ghost use Rattle.std.specs.Prelude.{◌≡◌, length};
 ghost use Rattle.semantics.specs.Sets.{some_below, Canonical};
 ghost use Rattle.semantics.specs.Alternating.{marks_in, clashes};
-ghost use Rattle.deriving.specs.Rulesets.{rules_in, atoms_in};
+ghost use Rattle.derivation.specs.Rulesets.{rules_in, atoms_in};
 ghost use Rattle.bounds.specs.Rounds.{pair, rounded};
 ghost use Rattle.bounds.specs.Ends.{ending};
 
 use crate::marks::{bar, hold};
 use crate::sets::take_over;
-use deriving::ruleset::Ruleset;
+use derivation::ruleset::Ruleset;
 
 // A round ends in a contradiction, an atom that is sure and not possible; or it has changed nothing;
 // or more rounds are to come.

@@ -1,6 +1,6 @@
 -- The program whose plans are sought.
-use Rattle.deriving.specs.declared.ruleset.Ruleset.{Ruleset}
-use Rattle.deriving.specs.Rulesets.{atoms_in, rules_in}
+use Rattle.derivation.specs.declared.ruleset.Ruleset.{Ruleset}
+use Rattle.derivation.specs.Rulesets.{atoms_in, rules_in}
 use Rattle.semantics.specs.Banks.{Meaning}
 use Rattle.semantics.specs.Plans.{Program, over}
 

@@ -7,13 +7,13 @@
 ghost use Rattle.std.specs.Prelude.{◌≡◌, false, length, Some};
 ghost use Rattle.lines.specs.Stacks.{newest_first};
 ghost use Rattle.semantics.specs.Search.{back, Seeks};
-ghost use Rattle.deriving.specs.Rulesets.{atoms_in};
+ghost use Rattle.derivation.specs.Rulesets.{atoms_in};
 ghost use Rattle.enumeration.specs.Programs.{program};
 
 use crate::backtrack::step_back;
 use crate::decide::decide;
 use crate::visit::{Outcome, visit};
-use deriving::ruleset::Ruleset;
+use derivation::ruleset::Ruleset;
 use lines::stack::Stack;
 use modules::query::Module;
 use semantics::Literal;

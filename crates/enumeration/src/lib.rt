@@ -4,6 +4,9 @@
 // (`marks`), asks for the bounds on the plans under them and looks at these (`node`).
 // Then the enumeration holds the lowest open atom absent (`decide`), or it steps back (`backtrack`).
 // It keeps no state but the stack of the open choices, which the caller lends.
+
+#![tactic(auto)]
+
 pub mod backtrack;
 pub mod decide;
 pub mod enumerate;

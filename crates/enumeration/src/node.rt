@@ -7,10 +7,10 @@
 ghost use Rattle.std.specs.Prelude.{◌≡◌, ℕ, ◌<◌, ◌≤◌, length};
 ghost use Rattle.semantics.specs.Banks.{Meaning};
 ghost use Rattle.semantics.specs.Plans.{over};
-ghost use Rattle.deriving.specs.Rulesets.{atoms_in, rules_in};
+ghost use Rattle.derivation.specs.Rulesets.{atoms_in, rules_in};
 ghost use Rattle.enumeration.specs.Nodes.{FirstBeyond, Tells};
 
-use deriving::ruleset::Ruleset;
+use derivation::ruleset::Ruleset;
 
 #[derive(Clone, Copy)]
 pub enum Node {

@@ -1,7 +1,7 @@
 // A visit to the node of the open choices: its bounds are narrowed from nothing and looked at.
 ghost use Rattle.std.specs.Prelude.{◌≡◌, false, length};
 ghost use Rattle.lines.specs.Stacks.{newest_first};
-ghost use Rattle.deriving.specs.Rulesets.{atoms_in};
+ghost use Rattle.derivation.specs.Rulesets.{atoms_in};
 ghost use Rattle.enumeration.specs.Programs.{program};
 ghost use Rattle.enumeration.specs.Visits.{Visited, is_found};
 
@@ -9,7 +9,7 @@ use crate::marks::mark;
 use crate::node::{Node, look};
 use bounds::narrow::narrow;
 use bounds::plan_test::is_plan;
-use deriving::ruleset::Ruleset;
+use derivation::ruleset::Ruleset;
 use lines::stack::Stack;
 use modules::query::Module;
 use semantics::Literal;

@@ -3,6 +3,9 @@
 // A fault has a number, which names the layer that found it, and a place: the atom, the output
 // position or the literal that it was found at, and 0 where there is nothing to point to. No layer
 // changes either on the way up; the text reader adds the line and the byte.
+
+#![tactic(auto)]
+
 ghost use Rattle.std.specs.Prelude.{◌≡◌};
 ghost use Rattle.faults.specs.Faults.{number_of, place_of};
 ghost use Rattle.faults.specs.declared.Fault.TheVariants.{Memory};

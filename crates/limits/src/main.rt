@@ -1,5 +1,8 @@
 // The limits of a sheet, at their edges and through its calls. Each scenario notes what its calls answered, and a line is
 // printed for it: for a refused call the fault's number, for an accepted one 255, and 254 where `next` says no more.
+
+#![tactic(auto)]
+
 mod notes;
 mod scenarios;
 

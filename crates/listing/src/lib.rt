@@ -3,6 +3,9 @@
 // The state (`state`) is fresh, running, ended or full. Its next plan (`seek`) is looked for from the
 // root or by a step back from the choices of the last plan, and each plan handed out is counted for
 // its atoms (`tallies`).
+
+#![tactic(auto)]
+
 pub mod seek;
 pub mod state;
 pub mod tallies;

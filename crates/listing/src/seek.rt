@@ -4,12 +4,12 @@
 // and lends it as a stack.
 ghost use Rattle.std.specs.Prelude.{◌≡◌, ◌≤◌, false, length};
 ghost use Rattle.semantics.specs.Plans.{over};
-ghost use Rattle.deriving.specs.Rulesets.{rules_in, atoms_in};
+ghost use Rattle.derivation.specs.Rulesets.{rules_in, atoms_in};
 ghost use Rattle.listing.specs.States.{listing_of};
 ghost use Rattle.listing.specs.Seeking.{newest_of, GoesOn};
 
 use crate::state::Listing;
-use deriving::ruleset::Ruleset;
+use derivation::ruleset::Ruleset;
 use enumeration::enumerate::{plan_after, plan_from};
 use lines::stack::Stack;
 use modules::query::Module;

@@ -2,6 +2,9 @@
 //
 // Each function writes one whole line, with the byte 10 that ends it, in the place of what `line` held, so that one
 // buffer serves for all lines. docs/FORMAT.md has the format.
+
+#![tactic(auto)]
+
 ghost use Rattle.std.specs.Prelude.{◌≡◌, true, ◌++◌, is_ok};
 ghost use Rattle.printout.specs.Printed.{present_name, plan_line, end_line, tell_line, fault_line, texts, yes_no};
 

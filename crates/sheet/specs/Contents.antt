@@ -6,7 +6,7 @@ use Rattle.semantics.specs.Banks.{Meaning}
 use Rattle.semantics.specs.Plans.{Program, WellFormed, plans, held}
 use Rattle.semantics.specs.Search.{back, LeadsTo}
 use Rattle.semantics.specs.Sheets.{State, program, Listing as Progress, Fresh as fresh, Running as running, Ended as ended, Full as full}
-use Rattle.deriving.specs.Rulesets.{rules_in}
+use Rattle.derivation.specs.Rulesets.{rules_in}
 use Rattle.listing.specs.States.{listing_of}
 use Rattle.listing.specs.Seeking.{newest_of}
 use Rattle.sheet.specs.declared.paper.Sheet.{Sheet}

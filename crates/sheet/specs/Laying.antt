@@ -1,6 +1,6 @@
 -- What a sheet is laid with.
 use Rattle.std.specs.Prelude.{◌≡◌, ℕ, List, [], length, replicate, vec_items, vec_len}
-use Rattle.deriving.specs.Rulesets.{rules_in, atoms_in}
+use Rattle.derivation.specs.Rulesets.{rules_in, atoms_in}
 use Rattle.sheet.specs.declared.parts.Parts.{Parts}
 
 -- the levels, and for each of them an atom of no lines, a tally of 0 and room for a choice

@@ -5,7 +5,7 @@
 ghost use Rattle.std.specs.Prelude.{◌≡◌, ◌<◌, true, length, is_ok, IfOk};
 ghost use Rattle.semantics.specs.Sheets.{fault, enter, line};
 ghost use Rattle.lines.specs.Lines.{rule_of};
-ghost use Rattle.deriving.specs.Rulesets.{rules_in};
+ghost use Rattle.derivation.specs.Rulesets.{rules_in};
 ghost use Rattle.checks.specs.Checks.{Checked};
 ghost use Rattle.sheet.specs.Contents.{contents, state_of, anew};
 ghost use Rattle.sheet.specs.Calls.{Made, Laid, Entered};
@@ -14,7 +14,7 @@ use crate::paper::Sheet;
 use crate::parts::Parts;
 use checks::levels::check_levels;
 use checks::line::check_line;
-use deriving::ruleset::Ruleset;
+use derivation::ruleset::Ruleset;
 use faults::Fault;
 use lines::line::Line;
 use listing::state::Listing;

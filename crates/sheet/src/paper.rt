@@ -3,9 +3,9 @@
 // Levels, lines, tallies and the open choices all go by the same atoms. What ties them to the
 // bank's meaning is `Sound`, in specs/: it speaks of the bank, which no fact of a field may do.
 ghost use Rattle.std.specs.Prelude.{◌≡◌, ◌≤◌, vec_len};
-ghost use Rattle.deriving.specs.Rulesets.{atoms_in};
+ghost use Rattle.derivation.specs.Rulesets.{atoms_in};
 
-use deriving::ruleset::Ruleset;
+use derivation::ruleset::Ruleset;
 use listing::state::Listing;
 use modules::query::Module;
 use semantics::Literal;

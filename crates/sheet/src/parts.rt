@@ -2,7 +2,7 @@
 ghost use Rattle.std.specs.Prelude.{◌≡◌, ◌≤◌, length, IfOk};
 ghost use Rattle.sheet.specs.Laying.{Parted};
 
-use deriving::ruleset::Ruleset;
+use derivation::ruleset::Ruleset;
 use semantics::{Literal, Side};
 use std::alloc::{AllocError, Global};
 

@@ -1,4 +1,7 @@
 // Lists every plan of the sheet that standard input describes, as docs/FORMAT.md has it. A fault ends with status 1.
+
+#![tactic(auto)]
+
 use report::list::list;
 use std::io;
 use std::io::{BufWriter, Read, Write};

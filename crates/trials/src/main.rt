@@ -1,5 +1,8 @@
 // Prints what is printed for each text that is named as an argument, after a line with its name. The texts are in data/,
 // and what must be printed for them was made by another implementation, tools/reference.py.
+
+#![tactic(auto)]
+
 use report::list::list;
 use std::io::{BufWriter, Write};
 use std::{env, fs};

@@ -15,7 +15,7 @@ loop-position-preserved g c =
     let n = length c.clear.new.set in
     let k = c.loop-position.position in
     let inv = c.loop-position.invariant in
-    elim c.if-atom-sure-given.branch [
+    elim c.if-atom-sure_given.branch [
       | then-atom-sure-given+in-Sure w ↦
           let s = sure_standing (settles k) (is-given k) w.in-Sure.ensures in
           let e = found_passed m surely n k s.0 in
@@ -46,7 +46,7 @@ returns g c =
     let surely : ℕ → Bool = λ k. settles k && is-given k in
     let possibly : ℕ → Bool = λ k. not (settles k) || is-given k in
     let all : c.loop-position.position ≡ m.outputs = omega arith in
-    let size : length c.clear.new.set ≡ length c.args.sure-given.now = omega arith in
+    let size : length c.clear.new.set ≡ length c.args.sure_given.now = omega arith in
     record {
       sure = c.loop-position.invariant.0 ∙ ap (found m surely (length c.clear.new.set)) all ∙ ap (λ n. found m surely n m.outputs) size;
       possible = c.loop-position.invariant.1 ∙ ap (found m possibly (length c.clear.new.set)) all ∙ ap (λ n. found m possibly n m.outputs) size;

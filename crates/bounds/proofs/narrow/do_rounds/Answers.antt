@@ -1,7 +1,7 @@
 use Rattle.std.proofs.Common.{◌≡◌, length, sym, ◌∙◌, subst, inl, inr, arith}
 use Rattle.semantics.specs.Plans.{over}
 use Rattle.semantics.specs.Alternating.{marks_in}
-use Rattle.deriving.specs.Rulesets.{rules_in, atoms_in}
+use Rattle.derivation.specs.Rulesets.{rules_in, atoms_in}
 use Rattle.bounds.specs.Rounds.{pair}
 use Rattle.bounds.proofs.Ending.{Underway, begun, ends-in-contradiction, ends-unchanged, goes_on, never-more}
 use Rattle.bounds.proofs.Rounding.{possibly-canonical, rounded-narrowed}
@@ -22,8 +22,8 @@ round-requires g c =
     let q = pair c.loop-turn.sure c.loop-turn.possible in
     let size : k ≡ n = omega (arith, c.requires.0.1.0) in
     let same_size : length c.loop-turn.possible ≡ n = omega (arith, c.requires.0.1.1) in
-    let given-size : length c.query-between.new.sure-given ≡ n = omega (arith, c.requires.1.0) in
-    ((c.requires.0.0, (size, same_size)), (given-size, possibly-canonical m rs n k q size c.query-between.new.possible-given c.query-between.ensures.possible))
+    let given-size : length c.query_between.new.sure_given ≡ n = omega (arith, c.requires.1.0) in
+    ((c.requires.0.0, (size, same_size)), (given-size, possibly-canonical m rs n k q size c.query_between.new.possible_given c.query_between.ensures.possible))
 
 pub returns-in-Contradiction : goal.returns-in-Contradiction
 returns-in-Contradiction g c ok =
@@ -34,12 +34,12 @@ returns-in-Contradiction g c ok =
     let ms = marks_in c.args.marks.now in
     let q = pair c.loop-turn.sure c.loop-turn.possible in
     let r = pair c.round.new.sure c.round.new.possible in
-    let given = pair c.query-between.new.sure-given c.query-between.new.possible-given in
+    let given = pair c.query_between.new.sure_given c.query_between.new.possible_given in
     let size : length c.loop-turn.sure ≡ n = omega (arith, c.requires.0.1.0) in
-    let step = rounded-narrowed m rs n (length c.loop-turn.sure) q size ms given r c.query-between.ensures.sure c.query-between.ensures.possible c.round.ensures.narrowed in
+    let step = rounded-narrowed m rs n (length c.loop-turn.sure) q size ms given r c.query_between.ensures.sure c.query_between.ensures.possible c.round.ensures.narrowed in
     elim c.in-Contradiction.is [
-      | inl e ↦ ends-in-contradiction p ms c.loop-turn.-turn q r (c.loop-turn.invariant ok) step (sym e ∙ c.round.ensures.end)
-      | inr e ↦ ends-unchanged p ms c.loop-turn.-turn q r (c.loop-turn.invariant ok) step (sym e ∙ c.round.ensures.end)
+      | inl e ↦ ends-in-contradiction p ms c.loop-turn._turn q r (c.loop-turn.invariant ok) step (sym e ∙ c.round.ensures.end)
+      | inr e ↦ ends-unchanged p ms c.loop-turn._turn q r (c.loop-turn.invariant ok) step (sym e ∙ c.round.ensures.end)
     ]
 
 pub loop-turn-preserved : goal.loop-turn-preserved
@@ -51,13 +51,13 @@ loop-turn-preserved g c ok =
     let ms = marks_in c.args.marks.now in
     let q = pair c.loop-turn.sure c.loop-turn.possible in
     let r = pair c.round.new.sure c.round.new.possible in
-    let given = pair c.query-between.new.sure-given c.query-between.new.possible-given in
+    let given = pair c.query_between.new.sure_given c.query_between.new.possible_given in
     let size : length c.loop-turn.sure ≡ n = omega (arith, c.requires.0.1.0) in
-    let step = rounded-narrowed m rs n (length c.loop-turn.sure) q size ms given r c.query-between.ensures.sure c.query-between.ensures.possible c.in-GoingOn.ensures.narrowed in
-    goes_on p ms c.loop-turn.-turn q r (c.loop-turn.invariant ok) step ok c.in-GoingOn.ensures.end
+    let step = rounded-narrowed m rs n (length c.loop-turn.sure) q size ms given r c.query_between.ensures.sure c.query_between.ensures.possible c.in-GoingOn.ensures.narrowed in
+    goes_on p ms c.loop-turn._turn q r (c.loop-turn.invariant ok) step ok c.in-GoingOn.ensures.end
 
 pub returns : goal.returns
 returns g c ok =
     let p = over (g.M.Module.meaning c.args.bank.now) (atoms_in c.args.rules.now) (rules_in c.args.rules.now) in
     let ms = marks_in c.args.marks.now in
-    absurd (never-more p ms c.loop-turn.-turn (pair c.loop-turn.sure c.loop-turn.possible) (c.loop-turn.invariant ok) (omega (arith, c.requires.0.0)))
+    absurd (never-more p ms c.loop-turn._turn (pair c.loop-turn.sure c.loop-turn.possible) (c.loop-turn.invariant ok) (omega (arith, c.requires.0.0)))

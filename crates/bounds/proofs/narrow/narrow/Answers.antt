@@ -1,12 +1,12 @@
 use Rattle.std.proofs.Common.{◌≡◌, not, length, sym, ap, ◌∙◌, arith, rules}
 use Rattle.semantics.specs.Sets.{tabled}
 use Rattle.semantics.specs.Alternating.{marks_in, is_present, is_absent}
-use Rattle.deriving.specs.Rulesets.{atoms_in}
+use Rattle.derivation.specs.Rulesets.{atoms_in}
 use Rattle.bounds.proofs.Rounding.{pair_same}
 use Rattle.bounds.proofs.narrow.narrow.Goals as goal
 
-pub do-rounds-requires : goal.do-rounds-requires
-do-rounds-requires g c =
+pub do_rounds-requires : goal.do_rounds-requires
+do_rounds-requires g c =
     let n = atoms_in c.args.rules.now in
     let ms = marks_in c.args.marks.now in
     let size = c.requires.0 in

@@ -3,7 +3,7 @@ use Rattle.semantics.specs.Sets.{Canonical, has, same, tabled}
 use Rattle.semantics.specs.Rules.{least}
 use Rattle.semantics.specs.Banks.{gives}
 use Rattle.semantics.proofs.Bytes.{tabled-canonical}
-use Rattle.deriving.specs.Rulesets.{rules_in, atoms_in}
+use Rattle.derivation.specs.Rulesets.{rules_in, atoms_in}
 use Rattle.bounds.proofs.Leasts.{least-tabled}
 use Rattle.bounds.proofs.plan_test.is_stable.Goals as goal
 
@@ -11,7 +11,7 @@ pub derive-requires : goal.derive-requires
 derive-requires g c =
     let given = gives (g.M.Module.meaning c.args.bank.now) c.args.set.now in
     let n = atoms_in c.args.rules.now in
-    let filled = c.query-at.ensures ∙ ap (tabled given 0) c.requires.1 in
+    let filled = c.query_at.ensures ∙ ap (tabled given 0) c.requires.1 in
     (c.requires.0, subst (Canonical n) (sym filled) (tabled-canonical given n))
 
 pub returns : goal.returns
@@ -20,6 +20,6 @@ returns g c =
     let rs = rules_in c.args.rules.now in
     let s = c.args.set.now in
     let n = atoms_in c.args.rules.now in
-    let filled = c.query-at.ensures ∙ ap (tabled given 0) c.requires.1 in
+    let filled = c.query_at.ensures ∙ ap (tabled given 0) c.requires.1 in
     let derived = c.derive.ensures ∙ ap (λ bare. least rs s (has bare) n) filled ∙ least-tabled rs s given n in
-    c.is-same.ensures ∙ ap (same s) derived
+    c.is_same.ensures ∙ ap (same s) derived

@@ -3,7 +3,7 @@ use Rattle.semantics.specs.Sets.{has, tabled, Canonical}
 use Rattle.semantics.specs.Rules.{least}
 use Rattle.semantics.specs.Alternating.{marks_in, is_present, is_absent}
 use Rattle.semantics.proofs.Bytes.{tabled-canonical}
-use Rattle.deriving.specs.Rulesets.{rules_in, atoms_in}
+use Rattle.derivation.specs.Rulesets.{rules_in, atoms_in}
 use Rattle.bounds.proofs.Leasts.{least-tabled}
 use Rattle.bounds.proofs.Rounding.{pair_same}
 use Rattle.bounds.proofs.round.derive_pair.Goals as goal
@@ -11,7 +11,7 @@ use Rattle.bounds.proofs.round.derive_pair.Goals as goal
 pub derive-requires : goal.derive-requires
 derive-requires c =
     let n = atoms_in c.args.rules.now in
-    let bare : ℕ → Bool = λ a. has c.args.sure-given.now a || is_present (marks_in c.args.marks.now a) in
+    let bare : ℕ → Bool = λ a. has c.args.sure_given.now a || is_present (marks_in c.args.marks.now a) in
     let held = c.hold.ensures ∙ ap (tabled bare 0) c.requires.0.0 in
     (c.requires.0.1.1, subst (Canonical n) (sym held) (tabled-canonical bare n))
 
@@ -20,7 +20,7 @@ returns c =
     let rs = rules_in c.args.rules.now in
     let n = atoms_in c.args.rules.now in
     let ms = marks_in c.args.marks.now in
-    let bare : ℕ → Bool = λ a. has c.args.sure-given.now a || is_present (ms a) in
+    let bare : ℕ → Bool = λ a. has c.args.sure_given.now a || is_present (ms a) in
     let held = c.hold.ensures ∙ ap (tabled bare 0) c.requires.0.0 in
     let size = c.requires.0.0 in
     pair_same

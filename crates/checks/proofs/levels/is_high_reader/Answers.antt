@@ -12,10 +12,10 @@ returns-then-levels-atom g c =
     let levels = c.args.levels.now in
     let k = c.args.position in
     let a = c.loop-atom.atom in
-    let own : c.level-of-own.result ≡ level levels (bank.atom k) = c.level-of-own.ensures ∙ ap (level levels) c.atom.ensures in
-    let high : (bank.reads k a && not (ltb (level levels a) c.level-of-own.result)) ≡ _ =
-    and_from (bank.reads k a) (not (ltb (level levels a) c.level-of-own.result)) (sym c.if-reads.ensures) (ap not (le-ltb (get_or levels a 0) c.level-of-own.result (omega arith))) in
-    some-here (λ a. bank.reads k a && not (ltb (level levels a) c.level-of-own.result)) a (length levels) high (omega arith)
+    let own : c.level_of-own.result ≡ level levels (bank.atom k) = c.level_of-own.ensures ∙ ap (level levels) c.atom.ensures in
+    let high : (bank.reads k a && not (ltb (level levels a) c.level_of-own.result)) ≡ _ =
+    and_from (bank.reads k a) (not (ltb (level levels a) c.level_of-own.result)) (sym c.if-reads.ensures) (ap not (le-ltb (get_or levels a 0) c.level_of-own.result (omega arith))) in
+    some-here (λ a. bank.reads k a && not (ltb (level levels a) c.level_of-own.result)) a (length levels) high (omega arith)
     ∙ ap (λ o. some_below (length levels) (λ a. bank.reads k a && not (ltb (level levels a) o))) own
 
 pub loop-atom-preserved : goal.loop-atom-preserved
@@ -24,7 +24,7 @@ loop-atom-preserved g c =
     let levels = c.args.levels.now in
     let k = c.args.position in
     let a = c.loop-atom.atom in
-    let own = c.level-of-own.result in
+    let own = c.level_of-own.result in
     some-passed (λ a. bank.reads k a && not (ltb (level levels a) own)) a c.loop-atom.invariant
     (elim c.else-reads.branch [
       | else-reads-via-then-reads+else-levels-atom w ↦ and_right (bank.reads k a) (not (ltb (level levels a) own)) (ap not (lt-ltb (get_or levels a 0) own w.if-levels-atom.false))

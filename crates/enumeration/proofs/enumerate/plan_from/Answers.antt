@@ -1,7 +1,7 @@
 use Rattle.std.proofs.Common.{◌≡◌, ◌<◌, ◌≤◌, ◌∷◌, length, Some, sym, refl, ap, ◌∙◌, subst, arith, rules}
 use Rattle.std.proofs.lemmas.Bool.{ltb-true, ltb-false}
 use Rattle.lines.specs.Stacks.{newest_first}
-use Rattle.deriving.specs.Rulesets.{atoms_in}
+use Rattle.derivation.specs.Rulesets.{atoms_in}
 use Rattle.semantics.specs.Search.{absent, work}
 use Rattle.semantics.proofs.Choices.{push_falls, back_falls}
 use Rattle.enumeration.specs.Programs.{program}

@@ -1,7 +1,7 @@
 use Rattle.std.proofs.Common.{◌≡◌, length, Some}
 use Rattle.lines.specs.Stacks.{newest_first}
 use Rattle.semantics.specs.Search.{work}
-use Rattle.deriving.specs.Rulesets.{atoms_in}
+use Rattle.derivation.specs.Rulesets.{atoms_in}
 use Rattle.enumeration.specs.Programs.{program}
 use Rattle.enumeration.specs.Visits.{GoesOn}
 use Rattle.enumeration.proofs.enumerate.plan_from.Given as goal

@@ -2,7 +2,7 @@ use Rattle.std.proofs.Common.{◌≡◌, sym, ◌∙◌, inl, inr}
 use Rattle.semantics.specs.Alternating.{Pair}
 use Rattle.semantics.specs.Plans.{over}
 use Rattle.semantics.proofs.Bounds.{calm_from}
-use Rattle.deriving.specs.Rulesets.{atoms_in, rules_in}
+use Rattle.derivation.specs.Rulesets.{atoms_in, rules_in}
 use Rattle.enumeration.proofs.Nodes.{beyond_none, clash-refutes, lowest-open}
 use Rattle.enumeration.proofs.node.look.Goals as goal
 use Rattle.enumeration.proofs.node.look.Goals.{then-is-some-via-then-is-some, then-is-some-via-else-is-some+then-bar-holds}

@@ -1,7 +1,7 @@
 use Rattle.std.proofs.Common.{◌≡◌, ℕ, length, sym, refl, ◌∙◌, arith}
 use Rattle.lines.specs.Stacks.{newest_first}
 use Rattle.semantics.specs.Alternating.{Pair}
-use Rattle.deriving.specs.Rulesets.{atoms_in}
+use Rattle.derivation.specs.Rulesets.{atoms_in}
 use Rattle.enumeration.specs.Programs.{program}
 use Rattle.enumeration.proofs.Visits.{refuted-passes, branch-goes-on, miss-passes, leaf-found}
 use Rattle.enumeration.proofs.visit.visit_with.Goals as goal

@@ -6,16 +6,16 @@ use Rattle.lines.proofs.Loops.{all_first, all_rest, any-passed, any-failed}
 use Rattle.lines.proofs.Reading.{rule_read, rules_count}
 use Rattle.lines.proofs.body.bar_holds.Goals as goal
 
-pub is-broken-requires : goal.is-broken-requires
-is-broken-requires c =
+pub is_broken-requires : goal.is_broken-requires
+is_broken-requires c =
     let ls = c.args.lines.now in
     let i = c.loop-line.line-index in
     let n = length c.args.set.now in
     let h : i < length (rules_of ls) = omega (arith, rules_count ls) in
     (subst (λ r. T (rule_below n r)) (rule_read ls i c.line-item.result (omega arith) c.line-item.is) (all_first (rule_below n) (rules_of ls) i no_rule h c.loop-line.invariant.0), c.requires.1)
 
-pub returns-then-is-broken : goal.returns-then-is-broken
-returns-then-is-broken c =
+pub returns-then-is_broken : goal.returns-then-is_broken
+returns-then-is_broken c =
     let ls = c.args.lines.now in
     let i = c.loop-line.line-index in
     let s = c.args.set.now in
@@ -23,7 +23,7 @@ returns-then-is-broken c =
     let p : Rule → Bool = λ r. is_bar r.head && body_holds s by r.body in
     let h : i < length (rules_of ls) = omega (arith, rules_count ls) in
     let e = ap p (rule_read ls i c.line-item.result (omega arith) c.line-item.is) in
-    sym (sym c.loop-line.invariant.1 ∙ any-passed p (rules_of ls) i no_rule h (e ∙ sym c.if-is-broken.ensures))
+    sym (sym c.loop-line.invariant.1 ∙ any-passed p (rules_of ls) i no_rule h (e ∙ sym c.if-is_broken.ensures))
 
 pub loop-line-preserved : goal.loop-line-preserved
 loop-line-preserved c =
@@ -35,7 +35,7 @@ loop-line-preserved c =
     let h : i < length (rules_of ls) = omega (arith, rules_count ls) in
     let e = ap p (rule_read ls i c.line-item.result (omega arith) c.line-item.is) in (
       all_rest (rule_below (length s)) (rules_of ls) i no_rule h c.loop-line.invariant.0,
-      any-failed p (rules_of ls) i no_rule h (e ∙ sym c.if-is-broken.ensures) ∙ c.loop-line.invariant.1,
+      any-failed p (rules_of ls) i no_rule h (e ∙ sym c.if-is_broken.ensures) ∙ c.loop-line.invariant.1,
     )
 
 pub returns : goal.returns

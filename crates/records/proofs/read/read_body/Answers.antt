@@ -7,7 +7,7 @@ use Rattle.records.proofs.read.read_body.Goals as goal
 
 pub loop-field-preserved : goal.loop-field-preserved
 loop-field-preserved c =
-    gathered_step (declared c.args.names.now) (held c.loop-field.body) (held c.push.new.self) c.in-ok-literal.literal (shown c.in-Some.field) (left c.loop-field.fields) (left c.next.new.self) c.in-Some.ensures c.in-ok-literal.ensures c.push.ensures
+    gathered_step (declared c.args.names.now) (held c.loop-field.body) (held c.push.new.self) c.in_ok-literal.literal (shown c.in-Some.field) (left c.loop-field.fields) (left c.next.new.self) c.in-Some.ensures c.in_ok-literal.ensures c.push.ensures
     ∙ c.loop-field.invariant
 
 pub returns : goal.returns
@@ -20,4 +20,4 @@ returns c =
     let long = placed_long (take body.count body.literals) (take body.count body.bytes) both in
     let cut = length-take-le body.count body.literals (omega arith) in
     let few : length (held body) ≤ 9 = omega arith in
-    gathered_end (declared c.args.names.now) (held body) (left c.loop-field.fields) c.in-default.ensures.0 few ∙ c.loop-field.invariant
+    gathered_end (declared c.args.names.now) (held body) (left c.loop-field.fields) c.in_default.ensures.0 few ∙ c.loop-field.invariant

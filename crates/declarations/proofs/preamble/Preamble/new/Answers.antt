@@ -9,7 +9,7 @@ use Rattle.declarations.proofs.preamble.Preamble.new.Goals as goal
 
 pub returns : goal.returns
 returns c =
-    none_said (declared c.in-ok-names.names) (vec_items c.new-2.result) (rows_of c.new-3.result) (vec_items c.new-4.result) c.in-ok-names.ensures c.new-2.ensures.items c.new-3.ensures c.new-4.ensures.items
+    none_said (declared c.in_ok-names.names) (vec_items c.new-2.result) (rows_of c.new-3.result) (vec_items c.new-4.result) c.in_ok-names.ensures c.new-2.ensures.items c.new-3.ensures c.new-4.ensures.items
 
-pub returns-in-err-names : goal.returns-in-err-names
-returns-in-err-names c = IfOk-from_err c.from-residual.result (λ preamble. saying preamble ≡ none_declared) c.from-residual.ensures.0
+pub returns-in_err-names : goal.returns-in_err-names
+returns-in_err-names c = IfOk-from_err c.from_residual.result (λ preamble. saying preamble ≡ none_declared) c.from_residual.ensures.0

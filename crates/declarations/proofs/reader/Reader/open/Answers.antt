@@ -11,7 +11,7 @@ returns-in-Ok c =
     let text = self.text.now in
     let bytes = c.in-Some.line.bytes.now in
     let call = c.in-Ok.ensures in
-    opens self.last self.line (to_come self) (lines_of (drop (self.at + length bytes + 1) text)) bytes (left c.of-fields.result) c.in-Some.ensures.1 c.of-fields.ensures.left c.in-Ok.letter (left c.open-record.new.fields) (lines_of (drop (self.at + (length bytes + 1)) text)) call.letter call.rest (rest_there text self.at (length bytes))
+    opens self.last self.line (to_come self) (lines_of (drop (self.at + length bytes + 1) text)) bytes (left c.of-fields.result) c.in-Some.ensures.1 c.of-fields.ensures.left c.in-Ok.letter (left c.open_record.new.fields) (lines_of (drop (self.at + (length bytes + 1)) text)) call.letter call.rest (rest_there text self.at (length bytes))
 
 pub returns-in-Err : goal.returns-in-Err
 returns-in-Err c =
@@ -21,5 +21,5 @@ returns-in-Err c =
     let call = c.in-Err.ensures in
     opens_not self.last self.line (to_come self) (lines_of (drop (self.at + length bytes + 1) text)) bytes (left c.of-fields.result) c.in-Some.ensures.1 c.of-fields.ensures.left c.in-Err.refusal call.letter
 
-pub returns-in-default : goal.returns-in-default
-returns-in-default c = let self = c.args.self.now in sym (ap (opened self.last self.line) c.in-default.ensures)
+pub returns-in_default : goal.returns-in_default
+returns-in_default c = let self = c.args.self.now in sym (ap (opened self.last self.line) c.in_default.ensures)

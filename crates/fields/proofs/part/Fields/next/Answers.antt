@@ -3,5 +3,5 @@ use Rattle.fields.proofs.part.Fields.next.Goals as goal
 
 pub returns : goal.returns
 returns c =
-    let p = c.part-at-field.ensures in
-    next_field c.args.self.now.at c.args.self.now.line.now c.part-at-field.result.bytes.now c.part-at-field.result.at c.if-self.false p.starts p.part p.long
+    let p = c.part_at-field.ensures in
+    next_field c.args.self.now.at c.args.self.now.line.now c.part_at-field.result.bytes.now c.part_at-field.result.at c.if-self.false p.starts p.part p.long

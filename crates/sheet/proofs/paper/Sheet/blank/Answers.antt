@@ -1,6 +1,6 @@
 use Rattle.std.proofs.Common.{[], vec_items, refl, ap}
 use Rattle.lines.specs.Lines.{rules_of}
-use Rattle.deriving.specs.Rulesets.{rules_in}
+use Rattle.derivation.specs.Rulesets.{rules_in}
 use Rattle.sheet.proofs.Calls.{blank_made, anew_is}
 use Rattle.sheet.proofs.paper.Sheet.blank.Goals as goal
 

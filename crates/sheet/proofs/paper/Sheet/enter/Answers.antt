@@ -5,7 +5,7 @@ use Rattle.semantics.specs.Rules.{rule_below}
 use Rattle.semantics.specs.Sheets.{enter, fault, line}
 use Rattle.semantics.proofs.Sheets.{enter-below, enter-forms}
 use Rattle.lines.specs.Lines.{rule_of, rules_of}
-use Rattle.deriving.specs.Rulesets.{rules_in, atoms_in}
+use Rattle.derivation.specs.Rulesets.{rules_in, atoms_in}
 use Rattle.sheet.specs.Contents.{contents, state_of, anew}
 use Rattle.sheet.proofs.Calls.{restarts}
 use Rattle.sheet.proofs.paper.Sheet.enter.Goals as goal

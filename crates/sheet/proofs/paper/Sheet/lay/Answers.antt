@@ -1,7 +1,7 @@
 use Rattle.std.proofs.Common.{◌≡◌, [], None, vec_items, sym, refl, rules}
 use Rattle.semantics.specs.Sheets.{lay, fault}
 use Rattle.semantics.proofs.Sheets.{lay-forms}
-use Rattle.deriving.specs.Rulesets.{rules_in}
+use Rattle.derivation.specs.Rulesets.{rules_in}
 use Rattle.sheet.specs.Contents.{contents, state_of}
 use Rattle.sheet.proofs.Calls.{restarts, anew_is}
 use Rattle.sheet.proofs.paper.Sheet.lay.Goals as goal

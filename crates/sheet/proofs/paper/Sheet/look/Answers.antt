@@ -1,6 +1,6 @@
 use Rattle.std.proofs.Common.{◌≡◌, length, vec_items, vec_len, sym, refl, ap, ◌∙◌, arith}
 use Rattle.std.proofs.lemmas.List.{with_items_is}
-use Rattle.deriving.specs.Rulesets.{rules_in, atoms_in}
+use Rattle.derivation.specs.Rulesets.{rules_in, atoms_in}
 use Rattle.listing.specs.States.{listing_of}
 use Rattle.listing.specs.Seeking.{newest_of}
 use Rattle.listing.proofs.Seeking.{goes_on_alike}

@@ -1,7 +1,7 @@
 use Rattle.std.proofs.Common.{◌≡◌, length, replicate, vec_items, vec_len, refl, ap, ◌∙◌, arith, rules}
 use Rattle.std.specs.Vec.{with_items}
 use Rattle.std.proofs.lemmas.List.{with_items_is}
-use Rattle.deriving.specs.Rulesets.{rules_in}
+use Rattle.derivation.specs.Rulesets.{rules_in}
 use Rattle.sheet.proofs.Calls.{anew_is}
 use Rattle.sheet.proofs.paper.Sheet.restart.Goals as goal
 

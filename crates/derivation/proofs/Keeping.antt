@@ -1,0 +1,45 @@
+-- The index kept in step with the lines, as the last one comes and goes.
+use Rattle.std.proofs.Common.{◌≡◌, ℕ, T, List, [], ◌∷◌, ◌++◌, length, sym, refl, ap, ◌∙◌}
+use Rattle.std.proofs.lemmas.List.{map_push}
+use Rattle.semantics.specs.Sets.{all}
+use Rattle.semantics.specs.Rules.{rule_below}
+use Rattle.semantics.proofs.Booleans.{and_left, and_right, and_from}
+use Rattle.lines.specs.declared.line.Line.{Line}
+use Rattle.derivation.specs.Indexing.{Chains, no_chains, put_body, index_of, numbers}
+use Rattle.lines.specs.Lines.{rule_of, rules_of}
+use Rattle.derivation.proofs.Chaining.{same_numbers, index_push}
+use Rattle.lines.proofs.Reading.{rules_count}
+
+pub index_none : (n : ℕ) → index_of n [] ≡ no_chains n
+unfolding index_of
+index_none n = refl
+
+-- every rule, and the last one
+module _ (n : ℕ) where
+  pub below-push : (ls : List Line) (l : Line) → T (all (rule_below n) (rules_of ls)) → T (rule_below n (rule_of l)) → T (all (rule_below n) (rules_of (ls ++ l ∷ [])))
+  below-push [] l h k = and_from (rule_below n (rule_of l)) (all (rule_below n) []) k tt
+  below-push (x ∷ ls) l h k =
+      and_from (rule_below n (rule_of x)) (all (rule_below n) (rules_of (ls ++ l ∷ []))) (and_left (rule_below n (rule_of x)) (all (rule_below n) (rules_of ls)) h)
+      (below-push ls l (and_right (rule_below n (rule_of x)) (all (rule_below n) (rules_of ls)) h) k)
+
+  pub below-front : (ls : List Line) (l : Line) → T (all (rule_below n) (rules_of (ls ++ l ∷ []))) → T (all (rule_below n) (rules_of ls))
+  below-front [] l h = tt
+  below-front (x ∷ ls) l h =
+      and_from (rule_below n (rule_of x)) (all (rule_below n) (rules_of ls)) (and_left (rule_below n (rule_of x)) (all (rule_below n) (rules_of (ls ++ l ∷ []))) h)
+      (below-front ls l (and_right (rule_below n (rule_of x)) (all (rule_below n) (rules_of (ls ++ l ∷ []))) h))
+
+  pub below_last : (ls : List Line) (l : Line) → T (all (rule_below n) (rules_of (ls ++ l ∷ []))) → T (rule_below n (rule_of l))
+  below_last [] l h = and_left (rule_below n (rule_of l)) (all (rule_below n) []) h
+  below_last (x ∷ ls) l h = below_last ls l (and_right (rule_below n (rule_of x)) (all (rule_below n) (rules_of (ls ++ l ∷ []))) h)
+
+  module _ (ls : List Line) (l : Line) where
+    one_more : index_of n (rules_of (ls ++ l ∷ [])) ≡ put_body (length ls) (rule_of l).body (index_of n (rules_of ls))
+    one_more = ap (index_of n) (map_push rule_of ls l) ∙ index_push n (rules_of ls) (rule_of l) ∙ ap (λ j. put_body j (rule_of l).body (index_of n (rules_of ls))) (rules_count ls)
+
+    pub entered : (ch ch' : Chains) (j : ℕ) → numbers ch ≡ numbers (index_of n (rules_of ls)) → j ≡ length ls → ch' ≡ put_body j (rule_of l).body ch →
+        numbers ch' ≡ numbers (index_of n (rules_of (ls ++ l ∷ [])))
+    entered ch ch' j same e step =
+        ap numbers (step ∙ ap (λ k. put_body k (rule_of l).body ch) e ∙ ap (put_body (length ls) (rule_of l).body) (same_numbers ch (index_of n (rules_of ls)) same) ∙ sym one_more)
+
+    pub struck : (ch : Chains) → numbers ch ≡ numbers (index_of n (rules_of (ls ++ l ∷ []))) → ch ≡ put_body (length ls) (rule_of l).body (index_of n (rules_of ls))
+    struck ch same = same_numbers ch (index_of n (rules_of (ls ++ l ∷ []))) same ∙ one_more
