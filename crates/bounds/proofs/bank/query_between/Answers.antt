@@ -17,7 +17,7 @@ returns g c =
     let possible-by : List ℕ → ℕ → List ℕ = λ atoms j. tabled (some_output m (λ k. not (reads_none m atoms k) || m.given k s)) 0 j in
     let whole : count - 0 ≡ count = omega arith in
     let atoms : take (count - 0) c.list_unknown-count.new.unknown ≡ unknown_atoms q n = ap (λ k. take k c.list_unknown-count.new.unknown) whole ∙ c.list_unknown-count.ensures.atoms in
-    let size : length c.args.sure_given.now ≡ n = c.requires.1.0 in
+    let size : length c.args.sure_given.now ≡ n = c.requires.givens.0 in
     record {
       sure = c.query_positions.ensures.sure ∙ ap (λ xs. sure-by xs (length c.args.sure_given.now)) atoms ∙ ap (sure-by (unknown_atoms q n)) size ∙ surely-found m q n;
       possible = c.query_positions.ensures.possible ∙ ap (λ xs. possible-by xs (length c.args.sure_given.now)) atoms ∙ ap (possible-by (unknown_atoms q n)) size ∙ possibly-found m q n;

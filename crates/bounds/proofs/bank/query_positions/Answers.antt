@@ -3,7 +3,7 @@ use Rattle.bounds.specs.Unknown.{reads_none}
 use Rattle.bounds.proofs.Outputs.{found, found_passed, found-failed, found-past}
 use Rattle.bounds.proofs.Standings.{sure_standing, open_standing, never_standing}
 use Rattle.bounds.proofs.bank.query_positions.Goals as goal
-use Rattle.bounds.proofs.bank.query_positions.Goals.{then-atom-sure-given+in-Sure, then-atom-sure-given+in-Open, then-atom-sure-given+in-Never, else-atom-sure-given}
+use Rattle.bounds.proofs.bank.query_positions.Goals.{then-atom-sure_given+in-Sure, then-atom-sure_given+in-Open, then-atom-sure_given+in-Never, else-atom-sure_given}
 
 pub loop-position-preserved : goal.loop-position-preserved
 loop-position-preserved g c =
@@ -16,22 +16,22 @@ loop-position-preserved g c =
     let k = c.loop-position.position in
     let inv = c.loop-position.invariant in
     elim c.if-atom-sure_given.branch [
-      | then-atom-sure-given+in-Sure w ↦
+      | then-atom-sure_given+in-Sure w ↦
           let s = sure_standing (settles k) (is-given k) w.in-Sure.ensures in
           let e = found_passed m surely n k s.0 in
           let f = found_passed m possibly n k s.1 in
           (cc, cc)
-      | then-atom-sure-given+in-Open w ↦
+      | then-atom-sure_given+in-Open w ↦
           let s = open_standing (settles k) (is-given k) w.in-Open.ensures in
           let e = found-failed m surely n k s.0 in
           let f = found_passed m possibly n k s.1 in
           (cc, cc)
-      | then-atom-sure-given+in-Never w ↦
+      | then-atom-sure_given+in-Never w ↦
           let s = never_standing (settles k) (is-given k) w.in-Never.ensures in
           let e = found-failed m surely n k s.0 in
           let f = found-failed m possibly n k s.1 in
           (cc, cc)
-      | else-atom-sure-given w ↦
+      | else-atom-sure_given w ↦
           let past : n ≤ m.atom k = omega arith in
           let e = found-past m surely n k past in
           let f = found-past m possibly n k past in

@@ -11,7 +11,7 @@ pub loop-turn-init : goal.loop-turn-init
 loop-turn-init g c ok =
     let p = over (g.M.Module.meaning c.args.bank.now) (atoms_in c.args.rules.now) (rules_in c.args.rules.now) in
     let ms = marks_in c.args.marks.now in
-    subst (Underway p ms 0) (sym c.requires.2) (begun p ms)
+    subst (Underway p ms 0) (sym c.requires.begin) (begun p ms)
 
 pub round-requires : goal.round-requires
 round-requires g c =
@@ -20,10 +20,13 @@ round-requires g c =
     let rs = rules_in c.args.rules.now in
     let k = length c.loop-turn.sure in
     let q = pair c.loop-turn.sure c.loop-turn.possible in
-    let size : k ≡ n = omega (arith, c.requires.0.1.0) in
-    let same_size : length c.loop-turn.possible ≡ n = omega (arith, c.requires.0.1.1) in
-    let given-size : length c.query_between.new.sure_given ≡ n = omega (arith, c.requires.1.0) in
-    ((c.requires.0.0, (size, same_size)), (given-size, possibly-canonical m rs n k q size c.query_between.new.possible_given c.query_between.ensures.possible))
+    let size : k ≡ n = omega (arith, c.requires.sizes.1.0) in
+    let same_size : length c.loop-turn.possible ≡ n = omega (arith, c.requires.sizes.1.1) in
+    let given-size : length c.query_between.new.sure_given ≡ n = omega (arith, c.requires.givens.0) in
+    record {
+      sizes = (c.requires.sizes.0, (size, same_size));
+      givens = (given-size, possibly-canonical m rs n k q size c.query_between.new.possible_given c.query_between.ensures.possible);
+    }
 
 pub returns-in-Contradiction : goal.returns-in-Contradiction
 returns-in-Contradiction g c ok =
@@ -35,7 +38,7 @@ returns-in-Contradiction g c ok =
     let q = pair c.loop-turn.sure c.loop-turn.possible in
     let r = pair c.round.new.sure c.round.new.possible in
     let given = pair c.query_between.new.sure_given c.query_between.new.possible_given in
-    let size : length c.loop-turn.sure ≡ n = omega (arith, c.requires.0.1.0) in
+    let size : length c.loop-turn.sure ≡ n = omega (arith, c.requires.sizes.1.0) in
     let step = rounded-narrowed m rs n (length c.loop-turn.sure) q size ms given r c.query_between.ensures.sure c.query_between.ensures.possible c.round.ensures.narrowed in
     elim c.in-Contradiction.is [
       | inl e ↦ ends-in-contradiction p ms c.loop-turn._turn q r (c.loop-turn.invariant ok) step (sym e ∙ c.round.ensures.end)
@@ -52,7 +55,7 @@ loop-turn-preserved g c ok =
     let q = pair c.loop-turn.sure c.loop-turn.possible in
     let r = pair c.round.new.sure c.round.new.possible in
     let given = pair c.query_between.new.sure_given c.query_between.new.possible_given in
-    let size : length c.loop-turn.sure ≡ n = omega (arith, c.requires.0.1.0) in
+    let size : length c.loop-turn.sure ≡ n = omega (arith, c.requires.sizes.1.0) in
     let step = rounded-narrowed m rs n (length c.loop-turn.sure) q size ms given r c.query_between.ensures.sure c.query_between.ensures.possible c.in-GoingOn.ensures.narrowed in
     goes_on p ms c.loop-turn._turn q r (c.loop-turn.invariant ok) step ok c.in-GoingOn.ensures.end
 
@@ -60,4 +63,4 @@ pub returns : goal.returns
 returns g c ok =
     let p = over (g.M.Module.meaning c.args.bank.now) (atoms_in c.args.rules.now) (rules_in c.args.rules.now) in
     let ms = marks_in c.args.marks.now in
-    absurd (never-more p ms c.loop-turn._turn (pair c.loop-turn.sure c.loop-turn.possible) (c.loop-turn.invariant ok) (omega (arith, c.requires.0.0)))
+    absurd (never-more p ms c.loop-turn._turn (pair c.loop-turn.sure c.loop-turn.possible) (c.loop-turn.invariant ok) (omega (arith, c.requires.sizes.0)))

@@ -13,4 +13,8 @@ do_rounds-requires g c =
     let narrow = c.args.rules.now.narrow in
     let sure = c.widen.ensures.sure ∙ ap (λ k. tabled (λ a. is_present (ms a)) 0 k) size in
     let possible = c.widen.ensures.possible ∙ ap (λ k. tabled (λ a. not (is_absent (ms a))) 0 k) size in
-    ((size, (search rules, search rules)), (search rules, search rules), pair_same sure possible)
+    record {
+      sizes = (size, (search rules, search rules));
+      givens = (search rules, search rules);
+      begin = pair_same sure possible;
+    }

@@ -12,8 +12,8 @@ pub derive-requires : goal.derive-requires
 derive-requires c =
     let n = atoms_in c.args.rules.now in
     let bare : ℕ → Bool = λ a. has c.args.sure_given.now a || is_present (marks_in c.args.marks.now a) in
-    let held = c.hold.ensures ∙ ap (tabled bare 0) c.requires.0.0 in
-    (c.requires.0.1.1, subst (Canonical n) (sym held) (tabled-canonical bare n))
+    let held = c.hold.ensures ∙ ap (tabled bare 0) c.requires.sizes.0 in
+    (c.requires.sizes.1.1, subst (Canonical n) (sym held) (tabled-canonical bare n))
 
 pub returns : goal.returns
 returns c =
@@ -21,8 +21,8 @@ returns c =
     let n = atoms_in c.args.rules.now in
     let ms = marks_in c.args.marks.now in
     let bare : ℕ → Bool = λ a. has c.args.sure_given.now a || is_present (ms a) in
-    let held = c.hold.ensures ∙ ap (tabled bare 0) c.requires.0.0 in
-    let size = c.requires.0.0 in
+    let held = c.hold.ensures ∙ ap (tabled bare 0) c.requires.sizes.0 in
+    let size = c.requires.sizes.0 in
     pair_same
     (c.derive.ensures ∙ ap (λ s. least rs c.args.possible.now (has s) n) held ∙ least-tabled rs c.args.possible.now bare n)
     (c.bar.ensures ∙ ap (λ k. tabled (λ a. has c.derive-2.new.model a && not (is_absent (ms a))) 0 k) size ∙ ap (λ s. tabled (λ a. has s a && not (is_absent (ms a))) 0 n) c.derive-2.ensures)

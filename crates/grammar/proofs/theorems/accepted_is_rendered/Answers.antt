@@ -2,4 +2,4 @@ use Rattle.grammar.proofs.Accepting as accepting
 use Rattle.grammar.proofs.theorems.accepted_is_rendered.Goals as goal
 
 pub returns : goal.returns
-returns c = accepting.accepted-is-rendered
+returns c = accepting.accepted_is_rendered
