@@ -25,5 +25,5 @@ loop-choice-preserved c =
     let popped = reverse_push (held older) (held c.loop-choice.choices) newest c.in-Some.ensures.held in (
       search rules,
       search rules,
-      sym (back-present (newest_first c.loop-choice.choices) newest (newest_first older) popped c.in-default-side.is) ∙ c.loop-choice.invariant.2,
+      sym (back-present (newest_first c.loop-choice.choices) newest (newest_first older) popped c.in_default-side.is) ∙ c.loop-choice.invariant.2,
     )

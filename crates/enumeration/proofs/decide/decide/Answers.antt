@@ -6,11 +6,11 @@ use Rattle.enumeration.proofs.Backing.{reverse_push, held_count}
 use Rattle.enumeration.proofs.decide.decide.Goals as goal
 
 -- src/decide.rt:22:9
-pub returns-then-is-full : goal.returns-then-is-full
-returns-then-is-full c =
+pub returns-then-is_full : goal.returns-then-is_full
+returns-then-is_full c =
     let count = held_count c.args.choices.now in
     let room = length c.args.choices.now.entries.now in
-    let full : room ≤ c.args.choices.now.len = leb-true room c.args.choices.now.len (sym c.if-is-full.ensures) in
+    let full : room ≤ c.args.choices.now.len = leb-true room c.args.choices.now.len (sym c.if-is_full.ensures) in
     record {
       lender = search rules;
       size = search rules;
@@ -23,7 +23,7 @@ pub returns : goal.returns
 returns c =
     let count = held_count c.args.choices.now in
     let room = length c.args.choices.now.entries.now in
-    let less : c.args.choices.now.len < room = leb-false room c.args.choices.now.len (sym c.if-is-full.ensures) in
+    let less : c.args.choices.now.len < room = leb-false room c.args.choices.now.len (sym c.if-is_full.ensures) in
     record {
       lender = search rules;
       size = search rules;

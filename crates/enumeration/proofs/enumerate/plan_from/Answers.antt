@@ -10,22 +10,22 @@ use Rattle.enumeration.proofs.Seeking.{none_left, no_room}
 use Rattle.enumeration.proofs.enumerate.plan_from.Goals as goal
 
 -- src/search.rt:45:21
-pub returns-then-not-step-back : goal.returns-then-not-step-back
-returns-then-not-step-back g c =
+pub returns-then-not-step_back : goal.returns-then-not-step_back
+returns-then-not-step_back g c =
     let p = program (g.M.Module.meaning c.args.bank.now) c.args.rules.now in
     let start = newest_first c.args.choices.now in
     record {
       lender = search rules;
       size = search rules;
       kept = λ _. c.in-Passed.ensures.kept refl ∙ c.loop-choices.invariant.2;
-      seeks = none_left p (Some start) (newest_first c.step-back.new.choices) c.visit.new.plan
-          (subst (GoesOn p (Some start)) c.if-not-step-back.ensures.back (λ k ok here. c.in-Passed.ensures.visited k ok (c.loop-choices.invariant.3 k ok here)));
+      seeks = none_left p (Some start) (newest_first c.step_back.new.choices) c.visit.new.plan
+          (subst (GoesOn p (Some start)) c.if-not-step_back.ensures.back (λ k ok here. c.in-Passed.ensures.visited k ok (c.loop-choices.invariant.3 k ok here)));
     }
 
 -- src/search.rt:40:5
-pub loop-choices-smaller-else-not-step-back : goal.loop-choices-smaller-else-not-step-back
-loop-choices-smaller-else-not-step-back g c =
-    back_falls (atoms_in c.args.rules.now) (newest_first c.loop-choices.choices) (newest_first c.step-back.new.choices) c.if-not-step-back.ensures.back
+pub loop-choices-smaller-else-not-step_back : goal.loop-choices-smaller-else-not-step_back
+loop-choices-smaller-else-not-step_back g c =
+    back_falls (atoms_in c.args.rules.now) (newest_first c.loop-choices.choices) (newest_first c.step_back.new.choices) c.if-not-step_back.ensures.back
 
 -- src/search.rt:50:21
 pub returns-then-not-decide : goal.returns-then-not-decide

@@ -23,7 +23,7 @@ loop-choice-preserved c =
     let more : reverse (take (i + 1) items) ≡ get_or items i d ∷ older = reverse_push (take i items) (take (i + 1) items) (get_or items i d) (take_more items i d (omega arith)) in
     subst (λ cs. Marked cs c.if-atom-marks.marks) (sym more)
     (elim c.if-atom-marks.branch [
-      | then-atom-marks w ↦ subst (Marked (get_or items i d ∷ older)) (sym w.marks-is) (marked_more older (get_or items i d) c.loop-choice.marks c.loop-choice.invariant w.byte-of.result w.byte-of.ensures)
+      | then-atom-marks w ↦ subst (Marked (get_or items i d ∷ older)) (sym w.marks-is) (marked_more older (get_or items i d) c.loop-choice.marks c.loop-choice.invariant w.byte_of.result w.byte_of.ensures)
       | else-atom-marks w ↦ subst (Marked (get_or items i d ∷ older)) (sym w.marks-is) (marked-past older (get_or items i d) c.loop-choice.marks c.loop-choice.invariant w.if-atom-marks.false)
     ])
 

@@ -29,25 +29,25 @@ returns-in-Branches g c =
     }
 
 -- src/visit.rt:55:1
-pub returns-then-is-plan : goal.returns-then-is-plan
-returns-then-is-plan g c =
+pub returns-then-is_plan : goal.returns-then-is_plan
+returns-then-is_plan g c =
     let bank = g.M.Module.meaning c.args.bank.now in
     let q : Pair = record { sure = c.narrow.new.sure; possible = c.narrow.new.possible } in
     let size : length c.mark.new.marks ≡ atoms_in c.args.rules.now = omega arith in
     record {
       kept = λ e. let z : ◌≡◌ {A = ℕ} 0 1 = cc in absurd (omega arith);
       visited = leaf-found (program bank c.args.rules.now) (newest_first c.args.choices.now) c.mark.new.marks q size c.mark.ensures c.narrow.ensures (c.in-Meets.ensures bank)
-          (sym c.is-plan.ensures ∙ c.if-is-plan.true) c.copy-from-slice.new.self c.copy-from-slice.ensures.after;
+          (sym c.is_plan.ensures ∙ c.if-is_plan.true) c.copy_from_slice.new.self c.copy_from_slice.ensures.after;
     }
 
 -- src/visit.rt:55:1
-pub returns-else-is-plan : goal.returns-else-is-plan
-returns-else-is-plan g c =
+pub returns-else-is_plan : goal.returns-else-is_plan
+returns-else-is_plan g c =
     let bank = g.M.Module.meaning c.args.bank.now in
     let q : Pair = record { sure = c.narrow.new.sure; possible = c.narrow.new.possible } in
     let size : length c.mark.new.marks ≡ atoms_in c.args.rules.now = omega arith in
     record {
       kept = λ _. refl;
       visited = miss-passes (program bank c.args.rules.now) (newest_first c.args.choices.now) c.mark.new.marks q size c.mark.ensures c.narrow.ensures (c.in-Meets.ensures bank)
-          (sym c.is-plan.ensures ∙ c.if-is-plan.false);
+          (sym c.is_plan.ensures ∙ c.if-is_plan.false);
     }

@@ -10,8 +10,8 @@ returns g c =
     let s = c.args.self.now in
     let count : length c.lines.result.now ≡ length (contents s).rules = ap length c.lines.ensures ∙ sym (length-map (vec_items s.rules.lines) rule_of) in
     record {
-      checked = subst (λ levels. Checked (enter_fault levels (length (contents s).rules) c.args.head c.args.body.now) c.check-line.result) c.as-slice.ensures.value
-          (subst (λ n. Checked (enter_fault c.as-slice.result.now n c.args.head c.args.body.now) c.check-line.result) count c.check-line.ensures.checked);
-      few = λ e. subst (λ n. n < 512) count (c.check-line.ensures.few e);
-      made = c.check-line.ensures.made;
+      checked = subst (λ levels. Checked (enter_fault levels (length (contents s).rules) c.args.head c.args.body.now) c.check_line.result) c.as_slice.ensures.value
+          (subst (λ n. Checked (enter_fault c.as_slice.result.now n c.args.head c.args.body.now) c.check_line.result) count c.check_line.ensures.checked);
+      few = λ e. subst (λ n. n < 512) count (c.check_line.ensures.few e);
+      made = c.check_line.ensures.made;
     }

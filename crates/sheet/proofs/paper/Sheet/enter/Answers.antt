@@ -14,7 +14,7 @@ pub enter-requires : goal.enter-requires
 enter-requires g c =
     let self = c.args.self.now in
     let st = state_of (g.M.Module.meaning self.bank) (contents self) in
-    let checked = c.in-ok-line.ensures in
+    let checked = c.in_ok-line.ensures in
     let below : T (rule_below (length (vec_items self.levels)) (line c.args.head c.args.body.now)) = enter-below st c.args.head c.args.body.now (sym checked.checked.finds) in
     let n : length (vec_items self.levels) ≡ atoms_in self.rules = omega (arith, self.ruled, self.levels.ok.0) in
     let few : length (contents self).rules < 512 = checked.few refl in (
@@ -29,10 +29,10 @@ returns g c =
     let s = contents self in
     let h = c.args.head in
     let body = c.args.body.now in
-    let checked = c.in-ok-line.ensures in
+    let checked = c.in_ok-line.ensures in
     let passes : fault (state_of bank s) (enter h body) ≡ None = sym checked.checked.finds in
     let rules : rules_in c.enter.new.self ≡ s.rules ++ line h body ∷ [] =
-    ap rules_of c.in-ok-enter.ensures.lines ∙ map-append rule_of (vec_items self.rules.lines) _ ∙ ap (λ r. s.rules ++ r ∷ []) checked.made in
+    ap rules_of c.in_ok-enter.ensures.lines ∙ map-append rule_of (vec_items self.rules.lines) _ ∙ ap (λ r. s.rules ++ r ∷ []) checked.made in
     record {
       same = search rules;
       entered = restarts bank s (enter h body) s.levels (s.rules ++ line h body ∷ []) (contents c.restart.new.self) passes refl

@@ -12,9 +12,9 @@ returns g c =
     let bank = g.M.Module.meaning self.bank in
     let s = contents self in
     let levels = c.args.levels.now in
-    let passes : fault (state_of bank s) (lay levels) ≡ None = sym c.in-ok-check-levels.ensures.checked.finds in
-    let parts = c.in-ok-parts.parts in
-    let parted = c.in-ok-parts.ensures in
+    let passes : fault (state_of bank s) (lay levels) ≡ None = sym c.in_ok-check_levels.ensures.checked.finds in
+    let parts = c.in_ok-parts.parts in
+    let parted = c.in_ok-parts.ensures in
     let fresh = anew_is levels (vec_items parts.levels) [] (rules_in parts.rules) (vec_items parts.tallies) parted.levels_are parted.no_rules parted.tallies_are in
     record {
       same = search rules;

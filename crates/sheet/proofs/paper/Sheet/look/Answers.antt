@@ -14,7 +14,7 @@ returns g c =
     let bank = g.M.Module.meaning s.bank in
     let sought = c.seek-sought in
     let n : atoms_in s.rules ≡ length (vec_items s.levels) = omega (arith, s.ruled, s.levels.ok.0) in
-    let size : length sought.new.choices ≡ vec_len s.choices = sought.auto.choices ∙ c.as-mut-slice.ensures.len in
+    let size : length sought.new.choices ≡ vec_len s.choices = sought.auto.choices ∙ c.as_mut_slice.ensures.len in
     record {
       same = refl;
       opened = refl;
@@ -22,6 +22,6 @@ returns g c =
       looked = looked-if (listing_of s.listing) (in_force bank (contents s)) _ _ sought.new.plan sought.result.found (length c.args.plan.now) (length (vec_items s.levels))
           (omega (arith, s.levels.ok.0))
           (goes_on_alike (listing_of s.listing) bank (rules_in s.rules) sought.new.plan sought.result.found n
-          (ap (newest_of s.depth) c.as-mut-slice.ensures.value)
+          (ap (newest_of s.depth) c.as_mut_slice.ensures.value)
           (ap (newest_of sought.result.depth) (sym (with_items_is s.choices sought.new.choices size))) sought.ensures.goes_on);
     }

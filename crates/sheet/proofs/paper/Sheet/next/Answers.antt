@@ -10,17 +10,17 @@ use Rattle.sheet.specs.Steps.{ended_at}
 use Rattle.sheet.proofs.Steps.{if-looked, hands_out, comes-to-end}
 use Rattle.sheet.proofs.paper.Sheet.next.Goals as goal
 
-pub returns-in-default-true-true : goal.returns-in-default-true-true
-returns-in-default-true-true g c =
+pub returns-in_default-true-true : goal.returns-in_default-true-true
+returns-in_default-true-true g c =
     let s = c.args.self.now in
     let bank = g.M.Module.meaning s.bank in
     let u = c.look-found.new.self in
     let set = c.look-found.new.plan in
-    let looked = c.in-default-true-true.ensures in
+    let looked = c.in_default-true-true.ensures in
     let same_size : length (vec_items u.levels) ≡ length (vec_items s.levels) = ap (λ x. length x.levels) looked.opened in
     let fits : length c.args.buffer.now ≡ length (vec_items s.levels) = omega (arith, same_size, u.levels.ok.0, c.look-found.auto.plan) in
     let tallied : length (vec_items s.tallies) ≡ length (vec_items s.levels) = omega (arith, s.tallied, s.tallies.ok.0, s.levels.ok.0) in
-    let room : length c.count.new.tallies ≡ vec_len u.tallies = c.count.auto.tallies ∙ c.as-mut-slice.ensures.len in
+    let room : length c.count.new.tallies ≡ vec_len u.tallies = c.count.auto.tallies ∙ c.as_mut_slice.ensures.len in
     let goes : GoesOn (listing_of s.listing) (in_force bank (contents s)) (contents s).opened (contents u).opened set true =
     if-looked (listing_of s.listing) (in_force bank (contents s)) (contents s).opened (contents u).opened set true (length c.args.buffer.now) (length (vec_items s.levels)) fits looked.looked in
     record {
@@ -29,21 +29,21 @@ returns-in-default-true-true g c =
       stepped = hands_out bank (contents s) _ (contents u).opened set (length c.args.buffer.now) (omega (arith, s.levels.ok.0)) fits goes tallied (record {
         levels = ap (λ x. x.levels) looked.opened;
         rules = ap (λ x. x.rules) looked.opened;
-        handed = c.saturating-add-self.ensures ∙ ap (λ x. raised x.handed) looked.opened;
-        listing = c.after-plan.ensures;
-        tallies = subst (λ before. Counted set before (with_items u.tallies c.count.new.tallies).items) (c.as-mut-slice.ensures.value ∙ ap (λ x. x.tallies) looked.opened)
-            (subst (λ after. Counted set c.as-mut-slice.result.now after) (sym (with_items_is u.tallies c.count.new.tallies room)) c.count.ensures);
+        handed = c.saturating_add-self.ensures ∙ ap (λ x. raised x.handed) looked.opened;
+        listing = c.after_plan.ensures;
+        tallies = subst (λ before. Counted set before (with_items u.tallies c.count.new.tallies).items) (c.as_mut_slice.ensures.value ∙ ap (λ x. x.tallies) looked.opened)
+            (subst (λ after. Counted set c.as_mut_slice.result.now after) (sym (with_items_is u.tallies c.count.new.tallies room)) c.count.ensures);
         opened = refl;
       });
     }
 
-pub returns-in-default-true-false : goal.returns-in-default-true-false
-returns-in-default-true-false g c =
+pub returns-in_default-true-false : goal.returns-in_default-true-false
+returns-in_default-true-false g c =
     let s = c.args.self.now in
     let bank = g.M.Module.meaning s.bank in
     let u = c.look-found.new.self in
     let set = c.look-found.new.plan in
-    let looked = c.in-default-true-false.ensures in
+    let looked = c.in_default-true-false.ensures in
     let same_size : length (vec_items u.levels) ≡ length (vec_items s.levels) = ap (λ x. length x.levels) looked.opened in
     let fits : length c.args.buffer.now ≡ length (vec_items s.levels) = omega (arith, same_size, u.levels.ok.0, c.look-found.auto.plan) in
     let going : is_full (listing_of u.listing) ≡ false = search rules in

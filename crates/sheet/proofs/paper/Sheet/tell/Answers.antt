@@ -13,7 +13,7 @@ returns g c =
     let s = contents self in
     let a = c.args.atom in
     let below : a < length s.levels = omega (arith, self.levels.ok.0) in
-    let ended = sym c.if-not-is-ended.ensures in
+    let ended = sym c.if-not-is_ended.ensures in
     let read = get_or_read (vec_items self.tallies) a c.index.result.now (omega (arith, self.levels.ok.0, self.tallied, self.tallies.ok.0)) c.index.ensures 0 in
     answers bank s (tell a) _ refl (tell-passes (state_of bank s) (omega arith) a below ended) refl
     (λ k. ap (λ t. told (tally_of t)) c.of.ensures ∙ ap told (tallies_all bank s a c.index.result.now below ended read k))
