@@ -6,7 +6,6 @@ use Rattle.semantics.specs.Banks.{Meaning}
 use Rattle.semantics.specs.Plans.{Program, WellFormed, plans, held}
 use Rattle.semantics.specs.Search.{back, LeadsTo}
 use Rattle.semantics.specs.Sheets.{State, program, Listing as Progress, Fresh as fresh, Running as running, Ended as ended, Full as full}
-use Rattle.modules.specs.declared.query.Module
 use Rattle.derivation.specs.Rulesets.{rules_in}
 use Rattle.listing.specs.States.{listing_of}
 use Rattle.listing.specs.Seeking.{newest_of}
@@ -22,7 +21,7 @@ pub record Contents : Type 0 where
   pub opened : List Literal
 
 -- what a sheet holds
-abbrev pub contents : {M : Type 0} {bank : Module.Ghosts M} → Sheet M bank → Contents
+abbrev pub contents : {M : Type 0} → Sheet M → Contents
 contents s = record {
   levels = vec_items s.levels;
   rules = rules_in s.rules;

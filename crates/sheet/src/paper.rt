@@ -7,7 +7,6 @@ ghost use Rattle.derivation.specs.Rulesets.{atoms_in};
 
 use derivation::ruleset::Ruleset;
 use listing::state::Listing;
-use modules::query::Module;
 use semantics::Literal;
 use std::alloc::Global;
 
@@ -28,7 +27,7 @@ pub struct Told {
 }
 
 #[derive(Drop)]
-pub struct Sheet<M: Module> {
+pub struct Sheet<M> {
     pub(crate) bank: M,
     pub(crate) heap: Global,
     pub(crate) levels: Vec<u8>,

@@ -11,5 +11,5 @@ returns-in-TooManyLiterals c = c.byte.ensures ∙ sym (ap (λ f. enter_byte (hel
 pub returns-in-LiteralAboveHead : goal.returns-in-LiteralAboveHead
 returns-in-LiteralAboveHead c = c.byte-in-LiteralAboveHead.ensures ∙ sym (ap (λ f. enter_byte (held c.args.body.now) (flaw f)) c.in-LiteralAboveHead.is)
 
-pub returns-in-default : goal.returns-in-default
-returns-in-default c = other_byte (held c.args.body.now) c.args.fault c.in-default.not-TooManyLiterals c.in-default.not-LiteralAboveHead
+pub returns-in_default : goal.returns-in_default
+returns-in_default c = other_byte (held c.args.body.now) c.args.fault c.in_default.not-TooManyLiterals c.in_default.not-LiteralAboveHead

@@ -20,4 +20,4 @@ returns-in-Err c =
     let sheet = c.blank-sheet.result in
     let bank : rows_of sheet.bank ≡ rows_of c.args.table = ap rows_of blank.same in
     let call = c.in-Err.ensures in
-    lays_not (rows_of c.args.table) (rows_of sheet.bank) c.args.levels.now c.args.outs.now (contents sheet) (contents c.lay.new.self) c.in-Err.fault c.lay-place.result bank blank.made call.laid c.lay-place.ensures
+    lays_not (rows_of c.args.table) (rows_of sheet.bank) c.args.levels.now c.args.outs.now (contents sheet) (contents c.lay.new.self) c.in-Err.fault c.lay_place.result bank blank.made call.laid c.lay_place.ensures

@@ -15,11 +15,11 @@ returns c d k at tells =
     let self = c.args.self.now in
     let a = c.args.atom in
     let more : a < length (contents self.sheet).levels = omega (arith, c.if-atom-atoms.false, c.atoms.ensures) in
-    let next : c.saturating-add.result ≡ a + 1 = omega (arith, c.saturating-add.ensures, self.sheet.few, self.sheet.levels.ok.0) in
-    tell-here d k self at a tells more _ _ c.unwrap-or-name.result.now (tally_of c.in-ok-told.told) refl refl refl (ap Tells next)
-    (name_is (declared self.names) a c.get.result _ c.unwrap-or-name.result c.get.ensures refl c.unwrap-or-name.ensures) (c.in-ok-tell-line.ensures refl) c.in-ok-told.ensures
+    let next : c.saturating_add.result ≡ a + 1 = omega (arith, c.saturating_add.ensures, self.sheet.few, self.sheet.levels.ok.0) in
+    tell-here d k self at a tells more _ _ c.unwrap_or-name.result.now (tally_of c.in_ok-told.told) refl refl refl (ap Tells next)
+    (name_is (declared self.names) a c.get.result _ c.unwrap_or-name.result c.get.ensures refl c.unwrap_or-name.ensures) (c.in_ok-tell_line.ensures refl) c.in_ok-told.ensures
 
-pub returns-in-err-told : goal.returns-in-err-told
-returns-in-err-told c d k at tells =
+pub returns-in_err-told : goal.returns-in_err-told
+returns-in_err-told c d k at tells =
     let self = c.args.self.now in
-    absurd (never-refused d k self at c.args.atom tells (omega (arith, c.if-atom-atoms.false, c.atoms.ensures)) c.in-err-told.field-0.0 c.in-err-told.ensures)
+    absurd (never-refused d k self at c.args.atom tells (omega (arith, c.if-atom-atoms.false, c.atoms.ensures)) c.in_err-told.field-0.0 c.in_err-told.ensures)
