@@ -1,11 +1,11 @@
 -- How far the rounds have come, and where they end.
-use Rattle.std.proofs.Common.{◌≡◌, ℕ, ◌+◌, ◌*◌, ◌<◌, ◌≤◌, Bool, true, false, cond, not, ◌&&◌, T, Some, None, Option, sym, refl, ap, ◌∙◌, subst, inl, inr, arith}
+use Rattle.std.proofs.Common.{◌≡◌, ℕ, ◌+◌, ◌*◌, ◌≤◌, Bool, true, false, cond, not, ◌&&◌, T, Some, None, Option, sym, refl, ap, ◌∙◌, subst, inl, inr, arith}
 use Rattle.std.proofs.lemmas.Bool.{and_parts, and_from, both_ways}
 use Rattle.semantics.specs.declared.Side.{Side}
 use Rattle.semantics.specs.declared.Side.TheVariants.{Present, Absent}
-use Rattle.semantics.specs.Sets.{has, same, some_below}
+use Rattle.semantics.specs.Sets.{has, same}
 use Rattle.semantics.specs.Plans.{Program, WellFormed}
-use Rattle.semantics.specs.Alternating.{Pair, Marks, is_present, is_absent, narrowed, widest, clashes, contradictory, Reached, start, round, room, Last}
+use Rattle.semantics.specs.Alternating.{Pair, Marks, is_present, is_absent, narrowed, widest, contradictory, Reached, start, round, room, Last}
 use Rattle.semantics.proofs.Booleans.{count_small}
 use Rattle.semantics.proofs.Bytes.{has_below, tabled-canonical, tabled-has, tabled-passes}
 use Rattle.semantics.proofs.Bounds.{calm_from}
@@ -13,7 +13,6 @@ use Rattle.semantics.proofs.Narrowing.{rounds-fall}
 use Rattle.bounds.specs.declared.round.RoundEnd.{RoundEnd}
 use Rattle.bounds.specs.declared.round.RoundEnd.TheVariants.{Contradiction, Settled, GoingOn}
 use Rattle.bounds.specs.Ends.{ending}
-use Rattle.bounds.specs.Narrowings.{NarrowedTo}
 use Rattle.bounds.proofs.Sames.{same_decides}
 use Rattle.bounds.proofs.Rounding.{pair_same}
 

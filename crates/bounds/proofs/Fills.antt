@@ -3,7 +3,7 @@ use Rattle.std.proofs.Common.{◌≡◌, ℕ, ◌+◌, ◌<◌, ◌≤◌, Bool,
 use Rattle.std.proofs.lemmas.List.Edits.{fill_by_more}
 use Rattle.std.proofs.lemmas.List.{get_or_past, get_or-set_other}
 use Rattle.std.proofs.lemmas.Bool.{cases_lt}
-use Rattle.semantics.specs.Sets.{has, tabled, Canonical}
+use Rattle.semantics.specs.Sets.{tabled, Canonical}
 use Rattle.semantics.proofs.Bytes.{bit, bit_small, tabled-canonical, same_canonical}
 use Rattle.bounds.proofs.Tables.{has-tabled, bit_test}
 

@@ -1,5 +1,5 @@
 -- The least model asks of the bare atoms only those below n.
-use Rattle.std.proofs.Common.{◌≡◌, ℕ, zero, suc, ◌<◌, Bool, ◌||◌, List, sym, refl, ap, ◌∙◌}
+use Rattle.std.proofs.Common.{◌≡◌, ℕ, zero, suc, ◌<◌, Bool, ◌||◌, List, refl, ap, ◌∙◌}
 use Rattle.semantics.specs.Sets.{has, tabled}
 use Rattle.semantics.specs.Rules.{Rule, derives, follows, step, steps, least}
 use Rattle.bounds.proofs.Tables.{has-tabled, tabled_alike}

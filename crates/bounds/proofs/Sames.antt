@@ -1,5 +1,5 @@
 -- The test for the same bytes decides it.
-use Rattle.std.proofs.Common.{◌≡◌, ℕ, true, List, Decides, refl}
+use Rattle.std.proofs.Common.{◌≡◌, ℕ, List, Decides, refl}
 use Rattle.std.proofs.lemmas.Slice.Eq.{compares_Decides}
 use Rattle.semantics.specs.Sets.{same}
 

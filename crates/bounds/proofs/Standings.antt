@@ -1,6 +1,5 @@
 -- What the standing of a position says of whether it is surely and possibly given.
 use Rattle.std.proofs.Common.{◌≡◌, ℕ, Bool, true, false, not, ◌&&◌, ◌||◌, refl, arith}
-use Rattle.bounds.specs.declared.bank.Standing.{Standing}
 use Rattle.bounds.specs.declared.bank.Standing.TheVariants.{Sure, Open, Never}
 use Rattle.bounds.specs.Ends.{standing_of}
 

@@ -1,5 +1,5 @@
 -- Sets written from a test: when two are one, and what one more atom makes of one.
-use Rattle.std.proofs.Common.{◌≡◌, ℕ, zero, suc, ◌<◌, Bool, true, false, ◌||◌, T, eqb, ◌∷◌, length, set, replicate, sym, refl, ap, ◌∙◌, inl, inr, arith, eqb→eq}
+use Rattle.std.proofs.Common.{◌≡◌, ℕ, zero, suc, ◌<◌, Bool, true, false, ◌||◌, T, eqb, ◌∷◌, set, replicate, sym, refl, ap, ◌∙◌, inl, inr, arith, eqb→eq}
 use Rattle.std.proofs.lemmas.Bool.{eq-eqb}
 use Rattle.semantics.specs.Sets.{has, tabled}
 use Rattle.semantics.proofs.Booleans.{holds, same_tests, or_left, or_right, or_cases}

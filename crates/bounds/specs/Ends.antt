@@ -1,5 +1,5 @@
 -- How a round ends, and how a position of the bank stands between the bounds.
-use Rattle.std.specs.Prelude.{ℕ, Bool, true, false, cond, ◌&&◌}
+use Rattle.std.specs.Prelude.{ℕ, Bool, cond, ◌&&◌}
 use Rattle.semantics.specs.Sets.{same, some_below}
 use Rattle.semantics.specs.Alternating.{Pair, clashes}
 use Rattle.bounds.specs.declared.bank.Standing.{Standing}

@@ -1,5 +1,5 @@
 -- What the checks of `lay` and `enter` find.
-use Rattle.std.specs.Prelude.{◌≡◌, ℕ, Bool, false, not, List, [], ◌∷◌, length, Option, Result, nat_le, nat_lt}
+use Rattle.std.specs.Prelude.{◌≡◌, ℕ, false, not, List, [], ◌∷◌, length, Option, Result, nat_le, nat_lt}
 use Rattle.semantics.specs.declared.Literal.{Literal}
 use Rattle.semantics.specs.declared.Head.{Head}
 use Rattle.semantics.specs.Banks.{Meaning}

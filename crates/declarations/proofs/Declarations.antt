@@ -1,15 +1,13 @@
 -- Declarations one by one.
-use Rattle.std.proofs.Common.{◌≡◌, ℕ, ◌+◌, ◌<◌, true, false, cond, List, [], ◌∷◌, length, Some, None, Ok, Err, Option, Result, sym, refl, ap, ◌∙◌, inl, inr, ⊎_elim, arith}
-use Rattle.faults.specs.Faults.{number_of}
-use Rattle.faults.specs.declared.Fault.TheVariants.{Memory}
+use Rattle.std.proofs.Common.{◌≡◌, ℕ, ◌+◌, ◌<◌, cond, List, [], ◌∷◌, length, Some, None, Ok, Err, Option, Result, sym, refl, ap, ◌∙◌, inl, inr, ⊎_elim, arith}
 use Rattle.fields.specs.declared.field.Letter.{Letter}
 use Rattle.fields.specs.declared.field.Letter.TheVariants.{Atom, Row, Rule, Bar}
 use Rattle.records.specs.declared.refusal.Refusal.{Refusal}
 use Rattle.records.specs.declared.refusal.Refused.{Refused}
-use Rattle.fields.specs.Pieces.{Field, fields_from}
+use Rattle.fields.specs.Pieces.{fields_from}
 use Rattle.records.specs.Reading.{then, opening, tail}
 use Rattle.declarations.specs.Declaring.{Located, in_line, Declared, declaration, declares, Declarations, declarations}
-use Rattle.declarations.specs.Shown.{Opening, opened, declaring, next_declaration, RefusedBy, PlacedIn, no_memory, located}
+use Rattle.declarations.specs.Shown.{Opening, declaring, next_declaration, RefusedBy, PlacedIn}
 
 -- one turn: there is no declaration left, or one is added
 abbrev pub turn : Declared → ℕ → List (List ℕ) → Option Opening → Result Declarations Located

@@ -1,12 +1,12 @@
 -- The record in the next line.
-use Rattle.std.proofs.Common.{◌≡◌, ℕ, ◌+◌, List, [], ◌∷◌, length, drop, Some, None, Ok, Err, Result, sym, refl, ap, ◌∙◌, arith}
+use Rattle.std.proofs.Common.{◌≡◌, ℕ, ◌+◌, List, ◌∷◌, drop, Some, Ok, Err, Result, sym, ap, ◌∙◌, arith}
 use Rattle.faults.specs.Faults.{number_of}
 use Rattle.fields.specs.declared.field.Letter.{Letter}
 use Rattle.records.specs.declared.refusal.Refusal.{Refusal}
 use Rattle.fields.specs.Pieces.{Field, lines_of, fields_from}
 use Rattle.records.specs.Reading.{then, opening, tail}
 use Rattle.declarations.specs.Declaring.{in_line}
-use Rattle.declarations.specs.Shown.{Opening, opened}
+use Rattle.declarations.specs.Shown.{opened}
 
 module _ (last : Letter) (n : ℕ) (lines rest : List (List ℕ)) (l : List ℕ) (front : List Field) (e : lines ≡ l ∷ rest) (f : front ≡ fields_from 0 l) where
   opened-by : (r : Result Letter Refusal) → r ≡ opening last front

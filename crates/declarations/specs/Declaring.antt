@@ -1,5 +1,5 @@
 -- The declarations of a text: its atoms and the rows of its pair table, line by line, up to the first line or bar.
-use Rattle.std.specs.Prelude.{ℕ, ◌+◌, Bool, true, false, cond, List, [], ◌∷◌, ◌++◌, length, Some, None, Ok, Err, Option, Result, nat_le}
+use Rattle.std.specs.Prelude.{ℕ, ◌+◌, Bool, true, false, cond, List, [], ◌∷◌, ◌++◌, length, Ok, Err, Result, nat_le}
 use Rattle.faults.specs.Faults.{number_of}
 use Rattle.faults.specs.declared.Fault.TheVariants.{TableFull}
 use Rattle.semantics.specs.Modules.{Row as PairRow}

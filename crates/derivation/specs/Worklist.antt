@@ -1,5 +1,5 @@
 -- How far the deriving of a least model has come.
-use Rattle.std.specs.Prelude.{◌≡◌, ℕ, ◌+◌, ◌<◌, ◌≤◌, Bool, cond, not, ◌&&◌, T, ◌⊎◌, List, [], ◌∷◌, length, set, ◌==◌, slice_index_or, slice_set}
+use Rattle.std.specs.Prelude.{◌≡◌, ℕ, ◌+◌, ◌<◌, ◌≤◌, Bool, cond, not, ◌&&◌, T, ◌⊎◌, List, [], ◌∷◌, length, ◌==◌, slice_index_or, slice_set}
 use Rattle.semantics.specs.declared.Head.{Head}
 use Rattle.semantics.specs.declared.Head.TheVariants.{Bar, Atom}
 use Rattle.semantics.specs.Sets.{has, ◌⊆◌, Canonical, ◌∈◌, all}

@@ -1,5 +1,5 @@
 -- Atoms of one bound beyond the other, and what they say of a node.
-use Rattle.std.proofs.Common.{◌≡◌, ℕ, ◌<◌, ◌≤◌, true, false, not, ◌&&◌, T, eqb, List, length, get_or, is_some, Some, None, Option, sym, refl, ◌∙◌, subst, inl, inr, arith}
+use Rattle.std.proofs.Common.{◌≡◌, ℕ, ◌<◌, ◌≤◌, true, false, not, T, eqb, List, length, is_some, Some, None, Option, subst, inl, inr, arith}
 use lib.Dec.{not_T}
 use Rattle.std.proofs.lemmas.List.{get_or_past}
 use Rattle.std.proofs.lemmas.Bool.{cases_order}

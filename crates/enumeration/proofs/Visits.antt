@@ -1,9 +1,9 @@
 -- From what the bounds say of a node to what the search does there.
-use Rattle.std.proofs.Common.{◌≡◌, ℕ, ◌<◌, ◌≤◌, true, false, List, [], ◌∷◌, length, drop, Some, None, Option, sym, refl, ◌∙◌, subst, inl, inr}
+use Rattle.std.proofs.Common.{◌≡◌, ℕ, true, false, List, ◌∷◌, length, drop, Some, None, Option, sym, refl, ◌∙◌, subst, inl, inr}
 use Rattle.std.proofs.lemmas.Bool.{lt-ltb}
 use Rattle.semantics.specs.declared.Literal.{Literal}
 use Rattle.semantics.specs.Plans.{Program, WellFormed, is_plan, plans}
-use Rattle.semantics.specs.Alternating.{Pair, Marks, marks_of, marks_in, Last}
+use Rattle.semantics.specs.Alternating.{Pair, Marks, marks_in, Last}
 use Rattle.semantics.specs.Search.{absent, left, back, Free, FreeNode, BoundsUnder, LeadsTo, Sought}
 use Rattle.semantics.specs.Theorems.{SearchStep}
 use Rattle.semantics.proofs.Listing.{plans-listed}

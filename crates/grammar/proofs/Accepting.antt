@@ -1,5 +1,5 @@
 -- What is accepted is the rendering of valid records.
-use Rattle.std.proofs.Common.{◌≡◌, ℕ, ◌+◌, ◌<◌, ◌≤◌, Bool, true, false, cond, ◌&&◌, ltb, leb, List, [], ◌∷◌, ◌++◌, map, length, is_some, Some, None, Ok, Err, Option, Result, sym, refl, ap, ◌∙◌, subst, arith}
+use Rattle.std.proofs.Common.{◌≡◌, ℕ, ◌+◌, ◌<◌, ◌≤◌, true, false, cond, ltb, leb, List, [], ◌∷◌, ◌++◌, map, length, is_some, Some, None, Ok, Err, Option, Result, sym, refl, ap, ◌∙◌, subst, arith}
 use Rattle.std.proofs.lemmas.List.{length-map, map-append}
 use Rattle.std.proofs.lemmas.Bool.{ltb-true, ltb-false, leb-true, leb-false, le-leb, and_parts}
 use Rattle.faults.specs.declared.Fault.TheVariants.{NameTwice, MalformedName, BadLevel, LevelCount, TableFull, OutOfOrder}
@@ -12,12 +12,12 @@ use Rattle.fields.specs.Words.{is_name, level_of, letter_of}
 use Rattle.fields.specs.Places.{place_of}
 use Rattle.records.specs.declared.body.Placed.{Placed}
 use Rattle.records.specs.declared.refusal.Refusal.{Refusal}
-use Rattle.records.specs.Reading.{then, at_byte, known, unused, leveled, literals, AtomRecord, RowRecord, LineRecord, atom_fields, atom_record, row_record, line_record, bar_record, line_by, rank_of, ordered, opening, tail}
+use Rattle.records.specs.Reading.{then, at_byte, known, unused, leveled, literals, AtomRecord, RowRecord, LineRecord, atom_fields, atom_record, row_record, line_record, bar_record, rank_of, ordered, opening, tail}
 use Rattle.declarations.specs.Whole.{ended, is_whole}
 use Rattle.declarations.specs.Declaring.{Located, in_line, Declared, none_declared, with_atom, with_row, room_for, declaration, declares, Declarations, declarations}
 use Rattle.grammar.specs.Entering.{literals_of, laid, entered, entering, ruled}
-use Rattle.grammar.specs.Texts.{Described, described, on_sheet, read_text}
-use Rattle.grammar.specs.Format.{Named, Record, atom, row, line, bar, digits, literal_text, letter_text, letter, fields, line_text, rendered, unlines, commas, place, literal_named, with_record, meant_after, Known, AllKnown, Allowed, ValidAfter, RowsBelow, AcceptedIsRendered}
+use Rattle.grammar.specs.Texts.{Described, described, on_sheet}
+use Rattle.grammar.specs.Format.{Named, Record, atom, row, line, bar, digits, literal_text, letter_text, letter, fields, line_text, unlines, commas, place, literal_named, with_record, meant_after, Known, AllKnown, Allowed, ValidAfter, RowsBelow, AcceptedIsRendered}
 use Rattle.grammar.proofs.Wording.{err_is_not_ok, then_ok, cond_ok, unless_ok, ok_or-ok, level-written, letter-written}
 use Rattle.grammar.proofs.Splitting.{commas-fields, unlines_lines}
 use Rattle.grammar.proofs.Fitting.{Fitted, fitted_none, fitted-atom, fitted-row, laid-fits}

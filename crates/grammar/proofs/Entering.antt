@@ -1,15 +1,15 @@
 -- When a line or a bar is entered.
-use Rattle.std.proofs.Common.{◌≡◌, ℕ, suc, ◌+◌, ◌<◌, ◌≤◌, Bool, true, false, cond, not, eqb, ltb, leb, List, [], ◌∷◌, ◌++◌, map, length, Some, None, Ok, Err, Option, Result, sym, refl, ap, ◌∙◌, ⊎_elim, arith}
-use Rattle.std.proofs.lemmas.Bool.{ltb-true, ltb-false, lt-ltb, le-ltb, leb-false, lt-leb, not-true, not-false}
+use Rattle.std.proofs.Common.{◌≡◌, ℕ, suc, ◌<◌, ◌≤◌, true, false, not, ltb, leb, List, [], ◌∷◌, length, Some, None, Ok, Option, refl, ap, ◌∙◌, arith}
+use Rattle.std.proofs.lemmas.Bool.{ltb-true, ltb-false, lt-ltb, le-ltb, leb-false, lt-leb}
 use Rattle.semantics.specs.declared.Head.{Head}
 use Rattle.semantics.specs.declared.Head.TheVariants as heads
 use Rattle.semantics.specs.declared.Literal.{Literal}
 use Rattle.semantics.specs.Rules.{Rule, head_below}
 use Rattle.semantics.specs.Modules.{pair_table}
-use Rattle.semantics.specs.Sheets.{State, Fault, fault, anew, enter, line, laid, or_else, fault_at, fault_if, level, above_head, literal_fault}
+use Rattle.semantics.specs.Sheets.{fault, anew, enter, line, or_else, fault_at, fault_if, level, above_head, literal_fault}
 use Rattle.semantics.proofs.Sheets.{passes, test_fails, test_passes}
 use Rattle.records.specs.Reading.{then, LineRecord}
-use Rattle.declarations.specs.Declaring.{Located, Declared}
+use Rattle.declarations.specs.Declaring.{Declared}
 use Rattle.grammar.specs.Entering.{placing, literals_of, enter_place, entered}
 use Rattle.grammar.specs.Format.{BodyBelow}
 use Rattle.grammar.proofs.Fitting.{placed-ok}

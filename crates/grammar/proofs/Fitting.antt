@@ -1,11 +1,10 @@
 -- Which declarations fit a sheet: the levels and rows that the reading of declarations leaves, and when they are laid.
-use Rattle.std.proofs.Common.{◌≡◌, ℕ, zero, suc, ◌+◌, ◌<◌, ◌≤◌, Bool, true, false, cond, not, ◌&&◌, ◌||◌, eqb, ltb, leb, List, [], ◌∷◌, ◌++◌, map, length, get_or, Some, None, Ok, Err, Option, Result, sym, refl, ap, ◌∙◌, subst, inl, inr, ⊎_elim, arith}
-use Rattle.std.proofs.lemmas.List.{get_or_append_left, get_or_push, get_or_past, length_push, length-map}
-use Rattle.std.proofs.lemmas.Bool.{cases_lt, cases_eq, eqb-true, eqb-false, eq-eqb, ne_eqb, ltb-true, ltb-false, lt-ltb, le-ltb, and_parts, false≢true}
-use Rattle.semantics.specs.Banks.{Meaning}
+use Rattle.std.proofs.Common.{◌≡◌, ℕ, zero, suc, ◌<◌, ◌≤◌, Bool, true, false, cond, not, ◌&&◌, ◌||◌, eqb, ltb, List, [], ◌∷◌, ◌++◌, length, Some, None, Ok, Option, sym, refl, ap, ◌∙◌, ⊎_elim, arith}
+use Rattle.std.proofs.lemmas.List.{get_or_append_left, get_or_push, get_or_past, length_push}
+use Rattle.std.proofs.lemmas.Bool.{cases_lt, cases_eq, eqb-true, eqb-false, eq-eqb, ne_eqb, ltb-true, lt-ltb, le-ltb, false≢true}
 use Rattle.semantics.specs.Modules.{pair_table, Row as PairRow}
 use Rattle.semantics.specs.Sets.{some_below}
-use Rattle.semantics.specs.Sheets.{Fault, fault, checks, blank, lay, or_else, first_of, fault_at, fault_if, fault_found, lowest, level, reads_too_high}
+use Rattle.semantics.specs.Sheets.{Fault, fault, blank, lay, or_else, fault_if, fault_found, lowest, level, reads_too_high}
 use Rattle.semantics.proofs.Sheets.{passes, test_fails}
 use Rattle.declarations.specs.Declaring.{Located}
 use Rattle.grammar.specs.Entering.{placing, lay_place, laid_with}

@@ -1,9 +1,8 @@
 -- Names and literals: what reading makes of them is what they mean.
-use Rattle.std.proofs.Common.{◌≡◌, ℕ, ◌+◌, ◌<◌, ◌≤◌, Bool, true, false, cond, List, [], ◌∷◌, ◌++◌, map, length, is_some, Some, None, Ok, Err, Option, Result, sym, refl, ap, ◌∙◌, arith}
+use Rattle.std.proofs.Common.{◌≡◌, ℕ, ◌+◌, ◌<◌, Bool, true, false, cond, List, [], ◌∷◌, map, length, is_some, Some, None, Ok, Err, Option, Result, sym, refl, ap, ◌∙◌, arith}
 use Rattle.std.specs.Option.{ok_or}
 use Rattle.std.specs.Str.{bytes_eq}
 use Rattle.faults.specs.declared.Fault.TheVariants.{MalformedName, UnknownName}
-use Rattle.semantics.specs.declared.Literal.{Literal}
 use Rattle.semantics.specs.declared.Head.TheVariants as heads
 use Rattle.fields.specs.Pieces.{Field, placed}
 use Rattle.fields.specs.Words.{is_name, side_of, name_of}

@@ -1,5 +1,5 @@
 -- The rendering of valid records is accepted.
-use Rattle.std.proofs.Common.{◌≡◌, ℕ, ◌+◌, ◌<◌, ◌≤◌, Bool, true, false, cond, not, ◌&&◌, ltb, leb, List, [], ◌∷◌, ◌++◌, map, length, is_some, Some, None, Ok, Err, Result, sym, refl, ap, ◌∙◌, subst, arith}
+use Rattle.std.proofs.Common.{◌≡◌, ℕ, ◌+◌, ◌<◌, ◌≤◌, true, false, cond, ltb, leb, List, [], ◌∷◌, ◌++◌, map, length, is_some, Ok, Err, Result, sym, refl, ap, ◌∙◌, subst, arith}
 use Rattle.std.specs.Option.{ok_or}
 use Rattle.std.proofs.lemmas.List.{length-map}
 use Rattle.std.proofs.lemmas.Bool.{lt-ltb, le-ltb, le-leb, lt-leb, and_from}
@@ -10,7 +10,7 @@ use Rattle.semantics.specs.declared.Literal.{Literal}
 use Rattle.semantics.specs.Rules.{Rule as RuleOf, head_below}
 use Rattle.fields.specs.declared.field.Letter.{Letter}
 use Rattle.fields.specs.declared.field.Letter.TheVariants.{Atom, Row, Rule, Bar}
-use Rattle.fields.specs.Pieces.{Field, placed, fields_of, fields_from, lines_of}
+use Rattle.fields.specs.Pieces.{Field, placed, fields_from, lines_of}
 use Rattle.fields.specs.Words.{is_name}
 use Rattle.fields.specs.Places.{place_of}
 use Rattle.records.specs.declared.body.Placed.{Placed}
@@ -19,8 +19,8 @@ use Rattle.records.specs.Reading.{then, at_byte, known, unused, leveled, literal
 use Rattle.declarations.specs.Whole.{ended, is_whole}
 use Rattle.declarations.specs.Declaring.{Located, in_line, Declared, none_declared, with_atom, with_row, room_for, declaration, declares, Declarations, declarations}
 use Rattle.grammar.specs.Entering.{literals_of, laid, entered, entering, ruled}
-use Rattle.grammar.specs.Texts.{Described, described, on_sheet, read_text}
-use Rattle.grammar.specs.Format.{Named, Record, atom, row, line, bar, digits, literal_text, letter_text, letter, fields, line_text, rendered, unlines, commas, place, literal_named, with_record, meant_after, meant, Known, AllKnown, Allowed, ValidAfter, RowsBelow, RenderedIsAccepted}
+use Rattle.grammar.specs.Texts.{Described, described, on_sheet}
+use Rattle.grammar.specs.Format.{Named, Record, atom, row, line, bar, digits, literal_text, letter_text, letter, fields, line_text, rendered, place, literal_named, with_record, meant_after, meant, Known, AllKnown, Allowed, ValidAfter, RowsBelow, RenderedIsAccepted}
 use Rattle.grammar.proofs.Wording.{level_read, letter_read, name_free, literal_free, digits_free}
 use Rattle.grammar.proofs.Splitting.{free, AllFree, fields-commas, commas_free, lines_front, ended-unlines}
 use Rattle.grammar.proofs.Fitting.{fitted_none, fitted-atom, fitted-row, fit-laid}

@@ -1,13 +1,11 @@
 -- A text has one reading.
-use Rattle.std.proofs.Common.{◌≡◌, ℕ, ◌+◌, ◌<◌, ◌≤◌, Bool, true, false, cond, ◌&&◌, eqb, ltb, List, [], ◌∷◌, ◌++◌, map, length, Some, None, sym, refl, ap, ◌∙◌, arith}
-use Rattle.semantics.specs.declared.Side.{Side}
-use Rattle.semantics.specs.declared.Side.TheVariants.{Present, Absent}
+use Rattle.std.proofs.Common.{◌≡◌, ℕ, true, List, [], ◌∷◌, map, Some, sym, refl, ap, ◌∙◌, arith}
 use Rattle.fields.specs.declared.field.Letter.{Letter}
 use Rattle.fields.specs.declared.field.Letter.TheVariants.{Atom}
 use Rattle.fields.specs.Pieces.{fields_of, lines_of}
-use Rattle.fields.specs.Words.{is_name, is_small, all_inner, level_of, side_of, name_of}
+use Rattle.fields.specs.Words.{is_name, level_of, side_of, name_of}
 use Rattle.grammar.specs.Texts.{Described}
-use Rattle.grammar.specs.Format.{Named, Record, atom, row, line, bar, digits, signed, literal_text, letter_text, letter, fields, line_text, rendered, AllKnown, Allowed, with_record, none_described, ValidAfter, ReadingsAreOne}
+use Rattle.grammar.specs.Format.{Named, Record, atom, row, line, bar, digits, literal_text, letter_text, letter, fields, line_text, AllKnown, Allowed, with_record, none_described, ValidAfter, ReadingsAreOne}
 use Rattle.grammar.proofs.Wording.{level_read, name_read, side_read}
 use Rattle.grammar.proofs.Splitting.{fields-commas}
 use Rattle.grammar.proofs.Rendering.{no_comma, fields_free, lines_back}

@@ -1,12 +1,12 @@
 -- Names, levels, letters and literals: what is written is read back, and what is read was written so.
-use Rattle.std.proofs.Common.{◌≡◌, ℕ, ◌+◌, ◌-◌, ◌<◌, ◌≤◌, Bool, true, false, cond, not, ◌&&◌, ◌||◌, eqb, ltb, leb, ◌⊎◌, List, [], ◌∷◌, ◌++◌, length, is_some, Some, None, Ok, Err, Option, Result, sym, refl, ap, ◌∙◌, ⊎_elim, arith}
+use Rattle.std.proofs.Common.{◌≡◌, ℕ, ◌+◌, ◌-◌, ◌<◌, ◌≤◌, Bool, true, false, cond, not, ◌&&◌, ◌||◌, eqb, ltb, leb, List, [], ◌∷◌, length, is_some, Some, None, Ok, Err, Option, Result, refl, ap, ◌∙◌, ⊎_elim, arith}
 use Rattle.std.specs.Option.{ok_or}
-use Rattle.std.proofs.lemmas.Bool.{eqb-true, eqb-false, ltb-false, leb-true, ne_eqb, le-leb, lt-ltb, le-ltb, and_parts, and_from, or_cases, not-true, cases_lt, false≢true}
+use Rattle.std.proofs.lemmas.Bool.{eqb-true, ltb-false, leb-true, ne_eqb, le-leb, lt-ltb, le-ltb, and_parts, and_from, or_cases, cases_lt, false≢true}
 use Rattle.semantics.specs.declared.Side.{Side}
 use Rattle.semantics.specs.declared.Side.TheVariants.{Present, Absent}
 use Rattle.fields.specs.declared.field.Letter.{Letter}
 use Rattle.fields.specs.declared.field.Letter.TheVariants.{Atom, Row, Rule, Bar}
-use Rattle.fields.specs.Words.{letter_in, letter_of, is_small, is_inner, all_inner, is_name, digit_up_to, level_of, side_of, name_of}
+use Rattle.fields.specs.Words.{letter_of, is_small, is_inner, all_inner, is_name, digit_up_to, level_of, side_of, name_of}
 use Rattle.records.specs.Reading.{then}
 use Rattle.grammar.specs.Format.{digits, signed, letter_text}
 use Rattle.grammar.proofs.Splitting.{free}

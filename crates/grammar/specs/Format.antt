@@ -1,11 +1,10 @@
 -- The text format: records, how they are written, what they describe, and which lists of them are valid. A text is
 -- accepted exactly if it is the rendering of valid records, and what is loaded is then what they describe.
-use Rattle.std.specs.Prelude.{◌≡◌, ℕ, ◌+◌, ◌<◌, ◌≤◌, Bool, true, false, cond, List, [], ◌∷◌, ◌++◌, map, length, is_some, Some, None, Ok, Option, nat_lt}
+use Rattle.std.specs.Prelude.{◌≡◌, ℕ, ◌+◌, ◌<◌, ◌≤◌, true, false, cond, List, [], ◌∷◌, ◌++◌, map, length, is_some, Some, None, Ok, nat_lt}
 use Rattle.semantics.specs.declared.Side.{Side}
 use Rattle.semantics.specs.declared.Side.TheVariants.{Present, Absent}
 use Rattle.semantics.specs.declared.Literal.{Literal}
 use Rattle.semantics.specs.declared.Head.TheVariants as heads
-use Rattle.semantics.specs.Rules.{Rule as RuleOf}
 use Rattle.semantics.specs.Modules.{Row as PairRow}
 use Rattle.semantics.specs.Sheets.{level}
 use Rattle.fields.specs.declared.field.Letter.{Letter}

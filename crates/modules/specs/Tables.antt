@@ -1,5 +1,5 @@
 -- The rows of a pair table, as its meaning has them.
-use Rattle.std.specs.Prelude.{◌≡◌, ℕ, ◌<◌, ◌≤◌, true, false, cond, List, [], ◌∷◌, ◌++◌, map, length, Some, None, Ok, Err, vec_items, Option, Result, nat_le, slice_index_or}
+use Rattle.std.specs.Prelude.{◌≡◌, ℕ, ◌<◌, ◌≤◌, false, cond, List, [], ◌∷◌, ◌++◌, map, length, Some, None, Ok, Err, vec_items, Option, Result, nat_le, slice_index_or}
 use Rattle.semantics.specs.Modules.{Row}
 use Rattle.modules.specs.declared.rows.Pair.{Pair}
 use Rattle.modules.specs.declared.rows.PairTable.{PairTable}

@@ -1,5 +1,5 @@
 -- The lines of the printout.
-use Rattle.std.specs.Prelude.{ℕ, Bool, true, false, cond, List, [], ◌∷◌, ◌++◌, map, codes, decimal, ◌==◌}
+use Rattle.std.specs.Prelude.{ℕ, Bool, cond, List, [], ◌∷◌, ◌++◌, map, codes, decimal, ◌==◌}
 use Rattle.std.specs.Borrow.{Bor}
 
 -- the bytes of each of a list of parts of a text

@@ -1,11 +1,11 @@
 -- A record's fields, one after another: the first refusal is the record's.
-use Rattle.std.proofs.Common.{◌≡◌, ℕ, Bool, true, false, cond, ltb, List, [], ◌∷◌, ◌++◌, length, take, Ok, Err, Result, sym, refl, ap, ◌∙◌}
+use Rattle.std.proofs.Common.{◌≡◌, ℕ, Bool, true, false, cond, ltb, List, [], ◌∷◌, ◌++◌, length, Ok, Err, Result, sym, refl, ap, ◌∙◌}
 use Rattle.faults.specs.declared.Fault.TheVariants.{LevelCount}
 use Rattle.semantics.specs.declared.Head.TheVariants as heads
 use Rattle.records.specs.declared.body.Placed.{Placed}
 use Rattle.records.specs.declared.refusal.Refusal.{Refusal}
 use Rattle.fields.specs.Pieces.{Field}
-use Rattle.records.specs.Reading.{AtomRecord, RowRecord, LineRecord, then, known, unused, leveled, literals, atom_fields, atom_record, row_record, line_record, bar_record, miscounted, with_name, at_byte}
+use Rattle.records.specs.Reading.{AtomRecord, RowRecord, then, known, unused, leveled, literals, atom_fields, atom_record, row_record, line_record, bar_record, miscounted, with_name, at_byte}
 use Rattle.records.specs.Shown.{level_said, nine_of, up_to_nine}
 
 -- ATOMS

@@ -1,9 +1,8 @@
 -- Reading a record's fields against the names declared so far: what they say, or the first fault.
-use Rattle.std.specs.Prelude.{ℕ, ◌+◌, Bool, true, false, cond, List, [], ◌∷◌, ◌++◌, length, is_some, Some, None, Ok, Err, Option, Result, nat_lt}
+use Rattle.std.specs.Prelude.{ℕ, cond, List, [], ◌∷◌, ◌++◌, length, is_some, Some, None, Ok, Err, Option, Result, nat_lt}
 use Rattle.std.specs.Option.{ok_or}
 use Rattle.faults.specs.declared.Fault.{Fault}
 use Rattle.faults.specs.declared.Fault.TheVariants.{LevelCount, UnknownLetter, MalformedName, UnknownName, NameTwice, OutOfOrder, BadLevel, FieldCount}
-use Rattle.semantics.specs.declared.Literal.{Literal}
 use Rattle.semantics.specs.declared.Head.{Head}
 use Rattle.semantics.specs.declared.Head.TheVariants as heads
 use Rattle.semantics.specs.Modules.{Row as PairRow}

@@ -1,5 +1,5 @@
 -- A text that is accepted has an atom.
-use Rattle.std.proofs.Common.{◌≡◌, ℕ, ◌<◌, Bool, true, false, cond, ◌||◌, eqb, ltb, List, [], length, Some, None, Ok, Err, Option, Result, sym, refl, ap, ◌∙◌, arith}
+use Rattle.std.proofs.Common.{◌≡◌, ℕ, ◌<◌, Bool, true, false, cond, ◌||◌, eqb, ltb, List, [], length, Some, None, Ok, Err, Option, Result, refl, ap, arith}
 use Rattle.std.proofs.lemmas.Bool.{eqb-false}
 use Rattle.semantics.specs.Modules.{pair_table, Row as PairRow}
 use Rattle.semantics.specs.Sheets.{Fault, fault, blank, lay, or_else, fault_if}
@@ -7,7 +7,7 @@ use Rattle.fields.specs.declared.field.Letter.TheVariants.{Atom}
 use Rattle.fields.specs.Pieces.{lines_of}
 use Rattle.records.specs.Reading.{then}
 use Rattle.declarations.specs.Whole.{is_whole}
-use Rattle.declarations.specs.Declaring.{Located, Declared, none_declared, Declarations, declarations}
+use Rattle.declarations.specs.Declaring.{Located, none_declared, declarations}
 use Rattle.grammar.specs.Entering.{placing, laid, ruled}
 use Rattle.grammar.specs.Texts.{Described, described, on_sheet, read_text}
 

@@ -1,5 +1,5 @@
 -- What one call prints, from how far the printing has come.
-use Rattle.std.proofs.Common.{◌≡◌, ℕ, ◌+◌, ◌<◌, ◌≤◌, true, false, List, [], length, get_or, Some, None, Ok, Err, vec_items, Option, unwrap_or, sym, refl, ap, ◌∙◌, subst, ap₂, arith, Bor}
+use Rattle.std.proofs.Common.{◌≡◌, ℕ, ◌+◌, ◌<◌, ◌≤◌, true, List, [], length, get_or, Some, None, Ok, Err, vec_items, Option, unwrap_or, sym, refl, ap, ◌∙◌, subst, ap₂, arith, Bor}
 use Rattle.std.specs.Vec.{with_items}
 use Rattle.std.proofs.lemmas.List.{get_or_past, with_items_is}
 use Rattle.std.proofs.lemmas.List.FromFn.{length-map-range_with_len, get_or-map-range_with_len}
@@ -8,7 +8,7 @@ use Rattle.faults.specs.declared.Fault.TheVariants.{ListingFull}
 use Rattle.semantics.specs.Rules.{Rule}
 use Rattle.semantics.specs.Modules.{pair_table, Row as PairRow}
 use Rattle.semantics.specs.Plans.{plans, over}
-use Rattle.semantics.specs.Sheets.{next, tell, Answer, refused, plan, no_more, told, Tally, tally, is_ended}
+use Rattle.semantics.specs.Sheets.{next, tell, Answer, refused, told, Tally, tally, is_ended}
 use Rattle.modules.specs.Tables.{rows_of}
 use Rattle.modules.specs.declared.rows.PairTable.{PairTable}
 use Rattle.sheet.specs.declared.paper.Sheet.{Sheet}
@@ -28,7 +28,7 @@ use Rattle.report.specs.declared.lister.Stage.TheVariants.{Plans, Tells}
 use Rattle.report.specs.Printouts.{printout, all_plans, told_line, tell_lines}
 use Rattle.report.specs.Progress.{PrintedSoFar, StandsAt}
 use Rattle.report.proofs.Lines.{plan-at, end-at, tell-at, length_whole, length-cut-off}
-use Rattle.report.proofs.Steps.{HandsOut, Ends, steps_on, comes-to-end, is-cut-off, when_ended, tells, not-refused}
+use Rattle.report.proofs.Steps.{Ends, steps_on, comes-to-end, is-cut-off, when_ended, tells, not-refused}
 
 -- the same plans
 plans_are : (rows : List PairRow) (levels levels' : List ℕ) (rules rules' : List Rule) → levels ≡ levels' → rules ≡ rules' →

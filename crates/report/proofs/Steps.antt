@@ -1,12 +1,12 @@
 -- What the model of a sheet's calls says of a step of the listing, and of telling once it has ended.
-use Rattle.std.proofs.Common.{◌≡◌, ℕ, ◌+◌, ◌<◌, ◌≤◌, Bool, true, false, cond, not, eqb, ltb, List, [], length, get_or, Some, None, Option, sym, refl, ap, ◌∙◌, subst, arith}
-use Rattle.std.proofs.lemmas.Bool.{lt-ltb, eq-eqb, ltb-true, ltb-false, false≢true}
+use Rattle.std.proofs.Common.{◌≡◌, ℕ, ◌+◌, ◌<◌, ◌≤◌, Bool, true, false, cond, eqb, ltb, List, [], length, get_or, Some, None, Option, sym, refl, ap, ◌∙◌, arith}
+use Rattle.std.proofs.lemmas.Bool.{lt-ltb, eq-eqb, ltb-true, false≢true}
 use Rattle.faults.specs.declared.Fault.{Fault}
 use Rattle.faults.specs.declared.Fault.TheVariants.{Memory, NeverLaid, LevelCount, LevelTooHigh, OutputOutOfRange, ReadsTooHigh, TooManyLines, HeadOutOfRange, TooManyLiterals, LiteralOutOfRange, LiteralAboveHead, WrongBuffer, ListingFull, NoSuchAtom, NotEnded, TableFull, UnknownLetter, MalformedName, UnknownName, NameTwice, OutOfOrder, BadLevel, FieldCount, NotWhole}
 use Rattle.faults.specs.Faults.{number_of}
 use Rattle.semantics.specs.Banks.{Meaning}
 use Rattle.semantics.specs.Plans.{plans}
-use Rattle.semantics.specs.Sheets.{State, atoms, program, Call, next, tell, Answer, refused, plan, no_more, told, Tally, tally, Fault as Flaw, fault, Replies, Accepts, moved, more_plans, listing_at, Listing, Fresh, Running, Ended, Full, is_ended, is_full, or_else, fault_if}
+use Rattle.semantics.specs.Sheets.{State, Call, next, tell, Answer, refused, plan, no_more, told, tally, Fault as Flaw, fault, Replies, Accepts, moved, more_plans, listing_at, Listing, Fresh, Running, Ended, Full, is_ended, is_full, or_else, fault_if}
 use Rattle.sheet.specs.Faults.{flaw}
 use Rattle.sheet.specs.Contents.{Contents, state_of, in_force, Stands, Sound}
 use Rattle.sheet.specs.Calls.{Called, refusal}

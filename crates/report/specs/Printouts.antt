@@ -1,5 +1,5 @@
 -- What is printed for the sheet that a text describes.
-use Rattle.std.specs.Prelude.{ℕ, Bool, cond, List, [], ◌∷◌, ◌++◌, map, length, take, nat_lt, slice_index_or}
+use Rattle.std.specs.Prelude.{ℕ, cond, List, [], ◌∷◌, ◌++◌, map, length, take, nat_lt, slice_index_or}
 use Rattle.std.specs.List.{range_with_len}
 use Rattle.semantics.specs.Modules.{pair_table}
 use Rattle.semantics.specs.Plans.{Program, plans, over}

@@ -1,10 +1,9 @@
 -- The search finds exactly the plans, in listing order, and it ends.
-use Rattle.std.proofs.Common.{◌≡◌, ℕ, zero, suc, ◌<◌, ◌≤◌, true, false, cond, T, ◌⊎◌, List, [], ◌∷◌, ◌++◌, drop, Some, None, Option, sym, refl, ap, ◌∙◌, subst, ap₂, inl, inr, append-nil, arith}
+use Rattle.std.proofs.Common.{◌≡◌, ℕ, zero, suc, ◌<◌, ◌≤◌, true, false, T, ◌⊎◌, List, [], ◌∷◌, ◌++◌, drop, Some, None, Option, sym, refl, ap, ◌∙◌, subst, ap₂, inl, inr, append-nil, arith}
 use Rattle.std.specs.List.{AllByRecursion as All}
 use Rattle.std.proofs.lemmas.Bool.{cases_eq, cases_Bool, both_ways}
 use Rattle.semantics.specs.declared.Literal.{Literal}
 use Rattle.semantics.specs.Sets.{has, ◌⊆◌, Canonical, AlikeBelow, Listed}
-use Rattle.semantics.specs.Rules.{broken}
 use Rattle.semantics.specs.Plans.{Program, WellFormed, Plan, is_plan, plans}
 use Rattle.semantics.specs.Alternating.{Pair, Marks, marks_of, contradictory, narrowed, rounds, Last}
 use Rattle.semantics.specs.Search.{absent, agrees, under, later, left, back, Free, work, BoundsUnder, Open, Finds, finished, refuted, met, chosen}

@@ -2,7 +2,7 @@
 use Rattle.std.specs.Prelude.{◌≡◌, ℕ, ◌+◌, ◌<◌, ◌≤◌, Bool, true, false, T, ◌⊎◌, ◌↔◌, List, [], ◌∷◌, length, take, drop, Some, slice_index_or}
 use Rattle.semantics.specs.declared.Literal.{Literal}
 use Rattle.semantics.specs.Sets.{has, ◌⊆◌, Canonical, Before, First, Listed, all, subsets}
-use Rattle.semantics.specs.Rules.{Rule, Least, least, rule_below, broken}
+use Rattle.semantics.specs.Rules.{Rule, Least, least, rule_below}
 use Rattle.semantics.specs.Plans.{Program, WellFormed, Plan, is_plan, plans, held}
 use Rattle.semantics.specs.Alternating.{Pair, Marks, marks_of, unmarked, narrowed, contradictory, Reached, Agrees, Brackets, Narrower, room, rounds, Last}
 use Rattle.semantics.specs.Search.{absent, todo, left, back, Free, work, BoundsUnder, surely_broken, Open, Finds}

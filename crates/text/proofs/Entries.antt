@@ -1,5 +1,5 @@
 -- Entering a line or a bar.
-use Rattle.std.proofs.Common.{◌≡◌, ℕ, ◌+◌, ◌<◌, ◌≤◌, Bool, true, false, cond, not, eqb, ltb, leb, ◌⊎◌, List, [], ◌∷◌, ◌++◌, map, length, get_or, take, Some, None, Ok, Err, Option, Result, sym, refl, ap, ◌∙◌, subst, inl, inr, ⊎_elim, arith}
+use Rattle.std.proofs.Common.{◌≡◌, ℕ, ◌<◌, Bool, true, false, not, eqb, ltb, leb, ◌⊎◌, List, [], ◌∷◌, ◌++◌, map, length, get_or, take, Some, None, Ok, Err, Result, sym, refl, ap, ◌∙◌, subst, inl, inr, ⊎_elim, arith}
 use Rattle.std.proofs.lemmas.List.{take_all, take-map, get_or-take, length-map, length-take-le}
 use Rattle.std.proofs.lemmas.Bool.{cases_lt, lt-ltb}
 use Rattle.faults.specs.Faults.{number_of}
@@ -8,7 +8,6 @@ use Rattle.faults.specs.declared.Fault.TheVariants.{Memory, NeverLaid, LevelCoun
 use Rattle.semantics.specs.declared.Head.{Head}
 use Rattle.semantics.specs.declared.Literal.{Literal}
 use Rattle.semantics.specs.Rules.{Rule, head_below}
-use Rattle.semantics.specs.Banks.{Meaning}
 use Rattle.semantics.specs.Modules.{pair_table, Row as PairRow}
 use Rattle.semantics.specs.Sheets.{State, enter, done, Fault as Flaw, fault, moved, or_else, fault_if, laid, line, literal_fault, atoms}
 use Rattle.semantics.specs.Sheets as model
@@ -21,7 +20,7 @@ use Rattle.records.specs.declared.refusal.Refusal.{Refusal}
 use Rattle.fields.specs.Pieces.{Field}
 use Rattle.records.specs.Reading.{then, LineRecord, line_by}
 use Rattle.records.specs.Shown.{nine_of}
-use Rattle.declarations.specs.Declaring.{Located, in_line, Declared}
+use Rattle.declarations.specs.Declaring.{in_line, Declared}
 use Rattle.grammar.specs.Entering.{placing, literals_of, byte_at, enter_byte, enter_place, entered, entering}
 use Rattle.text.proofs.Laying.{accepted_faultless, accepted_moves, refused_call}
 use Rattle.text.proofs.Numbers.{number_zero}

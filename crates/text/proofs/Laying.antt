@@ -8,12 +8,11 @@ use Rattle.semantics.specs.Modules.{pair_table, Row as PairRow}
 use Rattle.semantics.specs.Sheets.{State, Call, lay, done, refused, Fault as Flaw, fault, moved, blank}
 use Rattle.semantics.specs.Sheets as model
 use Rattle.sheet.specs.Contents.{Contents, state_of, Sound}
-use Rattle.sheet.specs.Calls.{Called, CalledWithMemory, refusal, Made, Laid}
+use Rattle.sheet.specs.Calls.{Called, CalledWithMemory, Made, Laid}
 use Rattle.sheet.specs.Faults.{flaw}
 use Rattle.records.specs.declared.refusal.Refused.{Refused}
-use Rattle.declarations.specs.Declaring.{Located}
 use Rattle.grammar.specs.Entering.{placing, lay_place, laid_with}
-use Rattle.declarations.specs.Shown.{RefusedBy, located, no_memory}
+use Rattle.declarations.specs.Shown.{RefusedBy, located}
 use Rattle.text.proofs.Numbers.{without_memory}
 
 -- AN ACCEPTED CALL

@@ -1,6 +1,5 @@
 -- Loading a whole text.
-use Rattle.std.proofs.Common.{◌≡◌, ℕ, ◌≤◌, Bool, cond, List, [], length, Ok, Err, Result, sym, refl, ap, ◌∙◌, subst, ⊎_elim, arith}
-use Rattle.semantics.specs.Rules.{Rule}
+use Rattle.std.proofs.Common.{◌≡◌, ℕ, ◌≤◌, Bool, cond, List, [], length, Ok, Err, Result, sym, ap, ◌∙◌, subst, ⊎_elim, arith}
 use Rattle.modules.specs.declared.rows.PairTable.{PairTable}
 use Rattle.sheet.specs.declared.paper.Sheet.{Sheet}
 use Rattle.fields.specs.declared.field.Letter.{Letter}
@@ -11,13 +10,13 @@ use Rattle.fields.specs.Pieces.{lines_of}
 use Rattle.records.specs.Reading.{then}
 use Rattle.fields.specs.Shown.{declared}
 use Rattle.declarations.specs.Whole.{is_whole}
-use Rattle.declarations.specs.Declaring.{Located, Declared, none_declared, Declarations, declarations}
+use Rattle.declarations.specs.Declaring.{Declared, none_declared, Declarations, declarations}
 use Rattle.grammar.specs.Entering.{laid_with, laid, ruled}
 use Rattle.grammar.specs.Format.{rendered, meant, Written}
 use Rattle.grammar.specs.Texts.{Described, described, on_sheet, read_lines, read_text}
 use Rattle.grammar.proofs.Accepting.{accepted_is_rendered}
 use Rattle.grammar.proofs.Rendering.{rendered_is_accepted}
-use Rattle.text.specs.Sheets.{Holds, EntersAll, Loads, Answers, Settles}
+use Rattle.text.specs.Sheets.{EntersAll, Loads, Answers, Settles}
 use Rattle.text.specs.declared.loaded.Loaded.{Loaded}
 use Rattle.declarations.specs.Shown.{RefusedBy, located}
 use Rattle.declarations.proofs.Declarations.{refused_same, refused_then}

@@ -1,10 +1,9 @@
 -- A fault is known by its number, and want of memory by the number 0.
-use Rattle.std.proofs.Common.{◌≡◌, ℕ, sym, refl, ap, ◌∙◌, arith}
+use Rattle.std.proofs.Common.{◌≡◌, ℕ, refl, ap, arith}
 use Rattle.faults.specs.Faults.{number_of}
 use Rattle.faults.specs.declared.Fault.{Fault}
 use Rattle.faults.specs.declared.Fault.TheVariants.{Memory, NeverLaid, LevelCount, LevelTooHigh, OutputOutOfRange, ReadsTooHigh, TooManyLines, HeadOutOfRange, TooManyLiterals, LiteralOutOfRange, LiteralAboveHead, WrongBuffer, ListingFull, NoSuchAtom, NotEnded, TableFull, UnknownLetter, MalformedName, UnknownName, NameTwice, OutOfOrder, BadLevel, FieldCount, NotWhole}
 use Rattle.records.specs.declared.refusal.Refused.{Refused}
-use Rattle.declarations.specs.Declaring.{Located}
 use Rattle.declarations.specs.Shown.{located, no_memory}
 
 pub number_zero : (f : Fault) → number_of f ≡ 0 → f ≡ Memory

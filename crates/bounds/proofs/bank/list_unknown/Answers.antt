@@ -1,8 +1,7 @@
-use Rattle.std.proofs.Common.{◌≡◌, ℕ, ◌+◌, Bool, true, false, not, ◌||◌, eqb, List, length, get_or, take, sym, ap, ◌∙◌, arith}
+use Rattle.std.proofs.Common.{not, get_or, arith}
 use Rattle.std.proofs.lemmas.List.{take_more_set}
 use Rattle.std.proofs.lemmas.Bool.{eq-eqb, ne_eqb, or_left, or_right, or_from, not_from_true, not_from_false}
 use Rattle.semantics.specs.Sets.{has}
-use Rattle.semantics.specs.Alternating.{Pair, known}
 use Rattle.bounds.specs.Rounds.{pair}
 use Rattle.bounds.proofs.Knowing.{unknown-less, unknown-more}
 use Rattle.bounds.proofs.bank.list_unknown.Goals as goal

@@ -1,4 +1,4 @@
-use Rattle.std.proofs.Common.{◌≡◌, ℕ, ◌≤◌, Bool, not, ◌&&◌, ◌||◌, length, sym, ap, ◌∙◌, arith}
+use Rattle.std.proofs.Common.{◌≡◌, ℕ, ◌≤◌, Bool, not, ◌&&◌, ◌||◌, length, ap, ◌∙◌, arith}
 use Rattle.bounds.specs.Unknown.{reads_none}
 use Rattle.bounds.proofs.Outputs.{found, found_passed, found-failed, found-past}
 use Rattle.bounds.proofs.Standings.{sure_standing, open_standing, never_standing}

@@ -1,4 +1,4 @@
-use Rattle.std.proofs.Common.{◌≡◌, not, length, sym, ap, ◌∙◌, arith, rules}
+use Rattle.std.proofs.Common.{not, ap, ◌∙◌, rules}
 use Rattle.semantics.specs.Sets.{tabled}
 use Rattle.semantics.specs.Alternating.{marks_in, is_present, is_absent}
 use Rattle.derivation.specs.Rulesets.{atoms_in}

@@ -1,4 +1,4 @@
-use Rattle.std.proofs.Common.{◌≡◌, length, sym, ap, ◌∙◌, subst, arith}
+use Rattle.std.proofs.Common.{sym, ap, ◌∙◌, subst}
 use Rattle.semantics.specs.Sets.{Canonical, has, same, tabled}
 use Rattle.semantics.specs.Rules.{least}
 use Rattle.semantics.specs.Banks.{gives}

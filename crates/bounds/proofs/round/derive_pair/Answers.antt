@@ -1,4 +1,4 @@
-use Rattle.std.proofs.Common.{◌≡◌, ℕ, Bool, not, ◌&&◌, ◌||◌, sym, ap, ◌∙◌, subst}
+use Rattle.std.proofs.Common.{ℕ, Bool, not, ◌&&◌, ◌||◌, sym, ap, ◌∙◌, subst}
 use Rattle.semantics.specs.Sets.{has, tabled, Canonical}
 use Rattle.semantics.specs.Rules.{least}
 use Rattle.semantics.specs.Alternating.{marks_in, is_present, is_absent}

@@ -1,5 +1,5 @@
-use Rattle.std.proofs.Common.{◌≡◌, ℕ, ◌+◌, Bool, true, false, not, ◌&&◌, ◌||◌, length, get_or, sym, ap, ◌∙◌, add-one, arith}
-use Rattle.std.proofs.lemmas.Bool.{eq-eqb, ne_eqb, and_from, and_left, and_right, not_from_true, not_from_false, or_from}
+use Rattle.std.proofs.Common.{◌≡◌, true, false, not, length, get_or, sym, arith}
+use Rattle.std.proofs.lemmas.Bool.{eq-eqb, ne_eqb, and_from, and_left, and_right, not_from_true, not_from_false}
 use Rattle.semantics.specs.Sets.{has, some_below}
 use Rattle.semantics.specs.Alternating.{clashes}
 use Rattle.semantics.proofs.Booleans.{true_from, some-from, holds}

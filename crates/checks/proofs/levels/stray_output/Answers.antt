@@ -1,4 +1,4 @@
-use Rattle.std.proofs.Common.{◌≡◌, true, false, not, ltb, ap, arith}
+use Rattle.std.proofs.Common.{not, ltb, ap, arith}
 use Rattle.std.proofs.lemmas.Bool.{lt-ltb, le-ltb}
 use Rattle.checks.proofs.Lowest.{lowest-passed, lowest-here}
 use Rattle.checks.proofs.levels.stray_output.Goals as goal

@@ -1,4 +1,4 @@
-use Rattle.std.proofs.Common.{◌≡◌, sym, ap, rules}
+use Rattle.std.proofs.Common.{sym, ap, rules}
 use Rattle.declarations.specs.Whole.{ended}
 use Rattle.fields.proofs.Fronts.{none_of}
 use Rattle.declarations.proofs.Wholes.{ended_last}

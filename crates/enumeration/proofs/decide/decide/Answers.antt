@@ -1,4 +1,4 @@
-use Rattle.std.proofs.Common.{◌≡◌, ◌<◌, ◌≤◌, length, sym, refl, arith, rules}
+use Rattle.std.proofs.Common.{◌<◌, ◌≤◌, length, sym, refl, arith, rules}
 use Rattle.std.proofs.lemmas.Bool.{leb-true, leb-false, lt-ltb, le-ltb}
 use Rattle.lines.specs.Stacks.{held, newest_first}
 use Rattle.semantics.specs.Search.{absent}

@@ -1,6 +1,6 @@
 use Rattle.std.proofs.Common.{◌≡◌, ◌+◌, ◌-◌, [], ◌∷◌, reverse, length, get_or, take, sym, ap, ◌∙◌, subst, arith}
 use Rattle.std.proofs.lemmas.List.{take_more, take_all}
-use Rattle.lines.specs.Stacks.{held, newest_first}
+use Rattle.lines.specs.Stacks.{held}
 use Rattle.semantics.specs.declared.Literal.{Literal}
 use Rattle.semantics.specs.declared.Side.TheVariants.{Present}
 use Rattle.enumeration.specs.Marking.{Marked}

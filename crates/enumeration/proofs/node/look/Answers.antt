@@ -1,4 +1,4 @@
-use Rattle.std.proofs.Common.{◌≡◌, sym, ◌∙◌, inl, inr}
+use Rattle.std.proofs.Common.{sym, ◌∙◌, inl, inr}
 use Rattle.semantics.specs.Alternating.{Pair}
 use Rattle.semantics.specs.Plans.{over}
 use Rattle.semantics.proofs.Bounds.{calm_from}

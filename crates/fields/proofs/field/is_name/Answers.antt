@@ -1,4 +1,4 @@
-use Rattle.std.proofs.Common.{◌≡◌, sym, ◌∙◌, rules}
+use Rattle.std.proofs.Common.{sym, ◌∙◌, rules}
 use Rattle.fields.proofs.Fronts.{front_of, name_front}
 use Rattle.fields.proofs.field.is_name.Goals as goal
 

@@ -1,4 +1,4 @@
-use Rattle.std.proofs.Common.{◌≡◌, ◌≤◌, length, take, ◌∙◌, arith}
+use Rattle.std.proofs.Common.{◌≤◌, length, take, ◌∙◌, arith}
 use Rattle.std.proofs.lemmas.List.{length-take-le}
 use Rattle.fields.specs.Shown.{declared, left, shown}
 use Rattle.records.specs.Shown.{held}

@@ -1,4 +1,4 @@
-use Rattle.std.proofs.Common.{◌≡◌, [], length}
+use Rattle.std.proofs.Common.{◌≡◌, length}
 use Rattle.records.specs.Reading.{literals}
 use Rattle.fields.specs.Shown.{declared, left}
 use Rattle.records.specs.Shown.{held, up_to_nine}

@@ -1,4 +1,4 @@
-use Rattle.std.proofs.Common.{◌≡◌, sym, refl, ap, ◌∙◌, inl, inr, ⊎_elim}
+use Rattle.std.proofs.Common.{ap, ◌∙◌, inl, inr, ⊎_elim}
 use Rattle.modules.specs.Tables.{rows_of}
 use Rattle.records.specs.Reading.{LineRecord}
 use Rattle.fields.specs.Shown.{declared, left}

@@ -1,4 +1,4 @@
-use Rattle.std.proofs.Common.{◌≡◌, sym, ap, ◌∙◌}
+use Rattle.std.proofs.Common.{sym, ap, ◌∙◌}
 use Rattle.records.specs.Shown.{held}
 use Rattle.sheet.specs.Faults.{flaw}
 use Rattle.grammar.specs.Entering.{enter_byte}

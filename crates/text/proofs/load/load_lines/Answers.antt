@@ -1,6 +1,5 @@
-use Rattle.std.proofs.Common.{◌≡◌, ℕ, List, [], refl, subst}
+use Rattle.std.proofs.Common.{ℕ, List, [], refl, subst}
 use Rattle.std.proofs.lemmas.Result.{err_from_is_err_and}
-use Rattle.modules.specs.Tables.{rows_of}
 use Rattle.declarations.specs.Declaring.{Declarations}
 use Rattle.text.specs.Sheets.{Holds}
 use Rattle.declarations.specs.Shown.{saying, to_come}

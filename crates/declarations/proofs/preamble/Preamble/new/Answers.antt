@@ -1,4 +1,4 @@
-use Rattle.std.proofs.Common.{◌≡◌, [], vec_items}
+use Rattle.std.proofs.Common.{◌≡◌, vec_items}
 use Rattle.std.proofs.lemmas.Result.{IfOk-from_err}
 use Rattle.modules.specs.Tables.{rows_of}
 use Rattle.fields.specs.Shown.{declared}

@@ -1,4 +1,4 @@
-use Rattle.std.proofs.Common.{◌+◌, length, drop, None, Ok, sym, ap}
+use Rattle.std.proofs.Common.{◌+◌, length, drop, sym, ap}
 use Rattle.fields.specs.Pieces.{lines_of}
 use Rattle.fields.specs.Shown.{left}
 use Rattle.declarations.specs.Shown.{to_come, opened}

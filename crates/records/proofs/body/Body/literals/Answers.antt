@@ -1,4 +1,4 @@
-use Rattle.std.proofs.Common.{◌≡◌, take, sym, arith}
+use Rattle.std.proofs.Common.{take, sym, arith}
 use Rattle.records.proofs.Bodies.{placed-literals, same_cut}
 use Rattle.records.proofs.body.Body.literals.Goals as goal
 

@@ -1,4 +1,4 @@
-use Rattle.std.proofs.Common.{refl, ◌∙◌, ap₂, inl, inr}
+use Rattle.std.proofs.Common.{refl, ◌∙◌, ap₂, inl}
 use Rattle.std.proofs.lemmas.Result.{err_from_is_err_and}
 use Rattle.sheet.specs.Calls.{tally_of}
 use Rattle.printout.specs.Printed.{plan_line}
