@@ -5,6 +5,7 @@
 use report::list::list;
 use std::io;
 use std::io::{BufWriter, Read, Write};
+use std::process::ExitCode;
 
 // One byte more than a text may have, so that one too long is told from one that is not.
 const MOST: u64 = 65_537;
@@ -30,10 +31,18 @@ fn read_text(rt: &HostRuntime) -> Result<Vec<u8>, Stop> {
     Ok(text)
 }
 
-fn main(rt: HostRuntime) -> Result<(), Stop> {
-    let text = read_text(&rt)?;
+fn print_list(rt: &HostRuntime) -> Result<(), Stop> {
+    let text = read_text(rt)?;
     let mut out = BufWriter::new(rt.alloc(), rt.stdout())?;
     let whole = list(rt.alloc(), &text, &mut out)?;
     out.flush()?;
     if whole { Ok(()) } else { Err(Stop::Refused) }
+}
+
+// A refusal was printed, and an output that was closed ends the program quietly: neither is reported again.
+fn main(rt: HostRuntime) -> ExitCode {
+    match print_list(&rt) {
+        Ok(()) => ExitCode::SUCCESS,
+        Err(_) => ExitCode::FAILURE,
+    }
 }
