@@ -6,7 +6,7 @@ use Rattle.semantics.specs.Modules.{Row}
 use Rattle.modules.specs.declared.rows.Pair.{Pair}
 use Rattle.modules.specs.Tables.{row_of, RowAt}
 use Rattle.modules.specs.Pairs.{atoms_fit}
-use Rattle.std.specs.List.{AllByRecursion as All}
+use Rattle.std.specs.List.{AllByRecursion}
 use Rattle.semantics.proofs.Booleans.{holds, true_from, and_left, and_right, and_from, all_both}
 
 module _ {B : Type 0} (f : Row → B) (d : B) (rows : List Pair) (k : ℕ) where
@@ -22,11 +22,11 @@ module _ {B : Type 0} (f : Row → B) (d : B) (rows : List Pair) (k : ℕ) where
       let m : length (map f (map row_of rows)) ≤ k = omega (arith, length-map rows row_of, length-map (map row_of rows) f) in
       sym (get_or_past (map f (map row_of rows)) k d m)
 
-fits_within : (rows : List Pair) → T (atoms_fit rows) → All (λ r. r.to ≤ 65535) (map row_of rows)
+fits_within : (rows : List Pair) → T (atoms_fit rows) → AllByRecursion (λ r. r.to ≤ 65535) (map row_of rows)
 fits_within [] h = tt
 fits_within (p ∷ ps) h = (leb→le p.to 65535 (and_left (nat_le p.to 65535) (atoms_fit ps) h), fits_within ps (and_right (nat_le p.to 65535) (atoms_fit ps) h))
 
-pub rows_within : (rows : List Pair) → atoms_fit rows ≡ true → All (λ r. r.to ≤ 65535) (map row_of rows)
+pub rows_within : (rows : List Pair) → atoms_fit rows ≡ true → AllByRecursion (λ r. r.to ≤ 65535) (map row_of rows)
 rows_within rows e = fits_within rows (holds (atoms_fit rows) e)
 
 -- a row more, where there was memory for it

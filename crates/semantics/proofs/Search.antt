@@ -1,6 +1,6 @@
 -- The search finds exactly the plans, in listing order, and it ends.
 use Rattle.std.proofs.Common.{◌≡◌, ℕ, zero, suc, ◌<◌, ◌≤◌, true, false, T, ◌⊎◌, List, [], ◌∷◌, ◌++◌, drop, Some, None, Option, sym, refl, ap, ◌∙◌, subst, ap₂, inl, inr, append-nil, arith}
-use Rattle.std.specs.List.{AllByRecursion as All}
+use Rattle.std.specs.List.{AllByRecursion}
 use Rattle.std.proofs.lemmas.Bool.{cases_eq, cases_Bool, both_ways}
 use Rattle.semantics.specs.declared.Literal.{Literal}
 use Rattle.semantics.specs.Sets.{has, ◌⊆◌, Canonical, AlikeBelow, Listed}
@@ -50,7 +50,7 @@ module _ (p : Program) (ok : WellFormed p) where
     finds-all : {ys : List (List ℕ)} → Finds p (Some []) ys → ys ≡ xs
     finds-all f = finds-left f tt ∙ append-nil (under [] xs) ∙ kept-all (agrees []) xs (every xs)
       where
-        every : (zs : List (List ℕ)) → All (λ s. agrees [] s ≡ true) zs
+        every : (zs : List (List ℕ)) → AllByRecursion (λ s. agrees [] s ≡ true) zs
         every [] = tt
         every (z ∷ zs) = (refl, every zs)
 

@@ -1,6 +1,6 @@
 -- What a call that passes its checks has shown.
 use Rattle.std.proofs.Common.{◌≡◌, ℕ, zero, suc, ◌<◌, Bool, true, false, cond, not, T, ltb, List, [], ◌∷◌, length, Some, None, Option, refl, inl, inr, arith}
-use Rattle.std.specs.List.{AllByRecursion as All}
+use Rattle.std.specs.List.{AllByRecursion}
 use Rattle.std.proofs.lemmas.Bool.{cases_eq, not-false, ltb-true}
 use Rattle.semantics.specs.declared.Head.{Head}
 use Rattle.semantics.specs.declared.Literal.{Literal}
@@ -16,11 +16,11 @@ none_of : {A : Type 0} (x y : Option A) → or_else x y ≡ None → (x ≡ None
 none_of None y e = (refl, e)
 none_of (Some x) y e = (cc, cc)
 
-checks_pass : (cs : List (Option Fault)) → first_of cs ≡ None → All (λ c. c ≡ None) cs
+checks_pass : (cs : List (Option Fault)) → first_of cs ≡ None → AllByRecursion (λ c. c ≡ None) cs
 checks_pass [] e = tt
 checks_pass (c ∷ cs) e = let w = none_of c (first_of cs) e in (w.0, checks_pass cs w.1)
 
-pub passes : (st : State) (c : _) → fault st c ≡ None → All (λ o. o ≡ None) (checks st c)
+pub passes : (st : State) (c : _) → fault st c ≡ None → AllByRecursion (λ o. o ≡ None) (checks st c)
 passes st c e = checks_pass (checks st c) e
 
 pub test_fails : (number place : ℕ) (b : Bool) → fault_at number place b ≡ None → b ≡ false

@@ -1,7 +1,7 @@
 -- A stack of choices and the bounds that its marks lead to: what is left under it, at a contradiction, at a leaf and at a push.
 use Rattle.std.proofs.Common.{◌≡◌, ℕ, ◌<◌, ◌≤◌, Bool, true, false, cond, not, ◌&&◌, ◌||◌, T, eqb, ltb, List, [], ◌∷◌, length, Some, None, Option, sym, refl, ap, ◌∙◌, subst, inl, inr, arith, T_not}
 use lib.Dec.{not_T, eqb_refl}
-use Rattle.std.specs.List.{AllByRecursion as All}
+use Rattle.std.specs.List.{AllByRecursion}
 use Rattle.std.proofs.ByRecursion.{All-weaker, all_kept_by, kept_by_passes}
 use Rattle.std.proofs.lemmas.Bool.{both_ways, eqb-true, ne_eqb}
 use Rattle.semantics.specs.declared.Side.{Side}
@@ -105,10 +105,10 @@ broken_between rs q s b =
 
 -- what a listing has under the choices
 module _ (p : Program) (ok : WellFormed p) (xs : List (List ℕ)) (ls : Listed (Plan p) xs) (cs : List Literal) {q : Pair} (b : BoundsUnder p cs q) where
-  under-plans : All (Plan p) (under cs xs)
+  under-plans : AllByRecursion (Plan p) (under cs xs)
   under-plans = all_kept_by (agrees cs) (Plan p) xs (all-from-each (Plan p) xs (λ s m. (ls.members s).0 m))
 
-  under-bracketed : All (Brackets q) (under cs xs)
+  under-bracketed : AllByRecursion (Brackets q) (under cs xs)
   under-bracketed =
       all_two (Plan p) (λ s. agrees cs s ≡ true) (Brackets q) (λ s plan e. b.sound s plan (holds (agrees cs s) e))
       (under cs xs) under-plans (kept_by_passes (agrees cs) xs)
@@ -140,7 +140,7 @@ module _ (p : Program) (ok : WellFormed p) (xs : List (List ℕ)) (ls : Listed (
       go (Some Absent) f g = absurd (fails (has q.possible a) (g tt) h)
 
   module _ (high : q.possible ⊆ q.sure) where
-    only : All (λ t. t ≡ q.sure) (under cs xs)
+    only : AllByRecursion (λ t. t ≡ q.sure) (under cs xs)
     only = all_two (Plan p) (Brackets q) (λ t. t ≡ q.sure) (λ t plan k. same_sets plan.canonical b.canonical (λ a h. high a (k.high a h)) k.low) (under cs xs) under-plans under-bracketed
 
     -- bounds that meet: nothing where their set is no plan
