@@ -13,12 +13,11 @@ import re
 import sys
 
 NAME = r"[A-Za-z][A-Za-z0-9_'\-∪∷⊆∈≡≤<+*◌]*"
-SIGNATURE = re.compile(r"^(?:abbrev |unfoldable )?(?:pub )?(" + NAME + r") : (.*)$")
-RECORD = re.compile(r"^pub (?:record|data) (" + NAME + r")[ :]")
-FIELD = re.compile(r"^  (?:pub )?(" + NAME + r") : (.*)$")
+SIGNATURE = re.compile(r"^( *)(?:abbrev |unfoldable )?(?:pub )?(?:abbrev |unfoldable )?(" + NAME + r") : (.*)$")
+RECORD = re.compile(r"^( *)(?:pub )?(?:record|data) (?:pub )?(" + NAME + r")[ :]")
 OPERATOR = re.compile(r"◌")
 # names that the rules below would give to another definition too, or that speak of an older word
-CHOSEN = {"is-plan": "is_plan_step", "getD-tabled": "get_or-tabled", "okOr-ok": "ok_or-ok"}
+CHOSEN = {"is-plan": "is_plan_step", "getD-tabled": "get_or-tabled", "okOr-ok": "ok_or-ok", "all_get_d": "all-get_or"}
 # labels of clauses that had none, by what the clause says
 LABELS = {
     "t": "below", "model_in_bounds": "room", "marks_len": "sizes", "sure_given_len": "givens", "possible_value": "begin",
@@ -46,40 +45,39 @@ def result_of(signature):
 
 
 def declared():
-    """Every declared name, with what kind it is: type, word, field or lemma."""
+    """Every declared name, with what kind it is: type, word, field or lemma. A record's fields stand deeper than it does."""
     kinds = {}
     for path in antt_files():
         lines = read(path).split("\n")
-        body = None
+        record = None
         for i, line in enumerate(lines):
             m = RECORD.match(line)
             if m:
-                kinds.setdefault(m.group(1), set()).add("type")
-                body = m.group(1)
+                record = len(m.group(1))
+                kinds.setdefault(m.group(2), set()).add("type")
                 continue
             m = SIGNATURE.match(line)
             if m:
-                body = None
-                if is_function_file(path) and m.group(2).startswith("goal."):
+                deep, name, whole = len(m.group(1)), m.group(2), m.group(3)
+                if record is not None and deep > record:
+                    kinds.setdefault(name, set()).add("field")
                     continue
-                whole = m.group(2)
+                record = None
+                if is_function_file(path) and whole.startswith("goal."):
+                    continue
                 k = i + 1
                 while whole.endswith(("→", "×")) and k < len(lines):
                     whole += " " + lines[k].strip()
                     k += 1
-                if re.fullmatch(r"Type 0", result_of(whole)):
+                if result_of(whole) == "Type 0":
                     kind = "type"
-                elif "/specs/" in path and re.match(r"^(abbrev|unfoldable)", line):
+                elif "/specs/" in path and re.match(r"^ *(pub )?(abbrev|unfoldable)", line):
                     kind = "word"
                 else:
                     kind = "lemma"
-                kinds.setdefault(m.group(1), set()).add(kind)
-                continue
-            m = FIELD.match(line)
-            if m and body:
-                kinds.setdefault(m.group(1), set()).add("field")
-            elif line and not line.startswith(" "):
-                body = None
+                kinds.setdefault(name, set()).add(kind)
+            elif line and record is not None and len(line) - len(line.lstrip()) <= record:
+                record = None
     return kinds
 
 

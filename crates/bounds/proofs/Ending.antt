@@ -7,9 +7,9 @@ use Rattle.semantics.specs.Sets.{has, same}
 use Rattle.semantics.specs.Plans.{Program, WellFormed}
 use Rattle.semantics.specs.Alternating.{Pair, Marks, is_present, is_absent, narrowed, widest, contradictory, Reached, start, round, room, Last}
 use Rattle.semantics.proofs.Booleans.{count_small}
-use Rattle.semantics.proofs.Bytes.{has_below, tabled-canonical, tabled-has, tabled-passes}
+use Rattle.semantics.proofs.Bytes.{has_below, tabled_canonical, tabled-has, tabled_passes}
 use Rattle.semantics.proofs.Bounds.{calm_from}
-use Rattle.semantics.proofs.Narrowing.{rounds-fall}
+use Rattle.semantics.proofs.Narrowing.{rounds_fall}
 use Rattle.bounds.specs.declared.round.RoundEnd.{RoundEnd}
 use Rattle.bounds.specs.declared.round.RoundEnd.TheVariants.{Contradiction, Settled, GoingOn}
 use Rattle.bounds.specs.Ends.{ending}
@@ -59,16 +59,16 @@ one_side (Some Present) h = tt
 one_side (Some Absent) h = absurd h
 
 module _ (p : Program) (marks : Marks) where
-  widest-calm : contradictory p (widest p marks) ≡ false
-  widest-calm =
+  widest_calm : contradictory p (widest p marks) ≡ false
+  widest_calm =
       calm_from p (widest p marks)
-      (λ a h. tabled-has (λ a. not (is_absent (marks a))) p.atoms a (has_below (tabled-canonical (λ a. is_present (marks a)) p.atoms) a h)
-      (one_side (marks a) (tabled-passes (λ a. is_present (marks a)) p.atoms a h)))
+      (λ a h. tabled-has (λ a. not (is_absent (marks a))) p.atoms a (has_below (tabled_canonical (λ a. is_present (marks a)) p.atoms) a h)
+      (one_side (marks a) (tabled_passes (λ a. is_present (marks a)) p.atoms a h)))
 
   pub begun : Underway p marks 0 (widest p marks)
   begun = record {
     reached = start;
-    calm = widest-calm;
+    calm = widest_calm;
     left = omega (arith, count_small (λ a. not (has (widest p marks).sure a)) p.atoms, count_small (has (widest p marks).possible) p.atoms);
   }
 
@@ -77,21 +77,21 @@ module _ (p : Program) (marks : Marks) where
     next : Reached p marks r
     next = subst (Reached p marks) (sym step) (round u.calm u.reached)
 
-    pub ends-in-contradiction : Contradiction ≡ ending p.atoms q r → Last p marks r
-    ends-in-contradiction e = record { reached = next; final = inl (clash_from (contradictory p r) (alike q r) e) }
+    pub ends_in_contradiction : Contradiction ≡ ending p.atoms q r → Last p marks r
+    ends_in_contradiction e = record { reached = next; final = inl (clash_from (contradictory p r) (alike q r) e) }
 
-    pub ends-unchanged : Settled ≡ ending p.atoms q r → Last p marks r
-    ends-unchanged e =
+    pub ends_unchanged : Settled ≡ ending p.atoms q r → Last p marks r
+    ends_unchanged e =
         let still = alike_same q r (still_from (contradictory p r) (alike q r) e) in
         subst (Last p marks) still (record { reached = u.reached; final = inr (sym step ∙ sym still) })
 
     pub goes_on : WellFormed p → GoingOn ≡ ending p.atoms q r → Underway p marks (turns + 1) r
     goes_on ok e =
         let tests = going_from (contradictory p r) (alike q r) e in
-        elim (rounds-fall p ok marks u.reached u.calm) [
+        elim (rounds_fall p ok marks u.reached u.calm) [
           | inl still ↦ absurd (both_ways (alike q r) tests.1 (same_alike q r (sym (step ∙ still))))
           | inr less ↦ record { reached = next; calm = tests.0; left = omega (arith, u.left, ap (room p) step) }
         ]
 
-  pub never-more : (turns : ℕ) (q : Pair) → Underway p marks turns q → 2 * p.atoms + 1 ≤ turns → ⊥
-  never-more turns q u l = omega (arith, u.left)
+  pub never_more : (turns : ℕ) (q : Pair) → Underway p marks turns q → 2 * p.atoms + 1 ≤ turns → ⊥
+  never_more turns q u l = omega (arith, u.left)

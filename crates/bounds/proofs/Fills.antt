@@ -4,7 +4,7 @@ use Rattle.std.proofs.lemmas.List.Edits.{fill_by_more}
 use Rattle.std.proofs.lemmas.List.{get_or_past, get_or-set_other}
 use Rattle.std.proofs.lemmas.Bool.{cases_lt}
 use Rattle.semantics.specs.Sets.{tabled, Canonical}
-use Rattle.semantics.proofs.Bytes.{bit, bit_small, tabled-canonical, same_canonical}
+use Rattle.semantics.proofs.Bytes.{bit, bit_small, tabled_canonical, same_canonical}
 use Rattle.bounds.proofs.Tables.{has-tabled, bit_test}
 
 -- the bytes below i are those of the test, and the others are as they were
@@ -21,7 +21,7 @@ pub kept_more : (old s : List ℕ) (i v : ℕ) → Kept i old s → Kept (i + 1)
 kept_more old s i v h k l = let other : k ≢ i = omega arith in get_or-set_other s i k v 0 other ∙ h k (omega arith)
 
 pub filled_all : (f : ℕ → Bool) (s : List ℕ) (n i : ℕ) → length s ≡ n → n ≤ i → Filled f i s → s ≡ tabled f 0 n
-filled_all f s n i e l h = same_canonical canonical (tabled-canonical f n) (λ a b. ap (λ x. eqb x 1) (h a (omega arith)) ∙ bit_test (f a) ∙ sym (has-tabled f n a b))
+filled_all f s n i e l h = same_canonical canonical (tabled_canonical f n) (λ a b. ap (λ x. eqb x 1) (h a (omega arith)) ∙ bit_test (f a) ∙ sym (has-tabled f n a b))
   where
     canonical : Canonical n s
     canonical = record {

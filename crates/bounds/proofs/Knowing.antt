@@ -37,16 +37,16 @@ settled_where m q k (suc n) =
 
 -- so the queries that read only the unknown atoms find what is surely and possibly given
 module _ (m : Meaning) (q : Pair) (n : ℕ) where
-  pub surely-found : tabled (some_output m (λ k. reads_none m (unknown_atoms q n) k && m.given k q.sure)) 0 n ≡ tabled (surely (bank_alone m n) q) 0 n
-  surely-found = ap (λ passes. tabled (some_output m passes) 0 n) (fun_ext (λ k. ap (λ b. b && m.given k q.sure) (settled_where m q k n)))
+  pub surely_found : tabled (some_output m (λ k. reads_none m (unknown_atoms q n) k && m.given k q.sure)) 0 n ≡ tabled (surely (bank_alone m n) q) 0 n
+  surely_found = ap (λ passes. tabled (some_output m passes) 0 n) (fun_ext (λ k. ap (λ b. b && m.given k q.sure) (settled_where m q k n)))
 
-  pub possibly-found : tabled (some_output m (λ k. not (reads_none m (unknown_atoms q n) k) || m.given k q.sure)) 0 n ≡ tabled (possibly (bank_alone m n) q) 0 n
-  possibly-found = ap (λ passes. tabled (some_output m passes) 0 n) (fun_ext (λ k. ap (λ b. not b || m.given k q.sure) (settled_where m q k n)))
+  pub possibly_found : tabled (some_output m (λ k. not (reads_none m (unknown_atoms q n) k) || m.given k q.sure)) 0 n ≡ tabled (possibly (bank_alone m n) q) 0 n
+  possibly_found = ap (λ passes. tabled (some_output m passes) 0 n) (fun_ext (λ k. ap (λ b. not b || m.given k q.sure) (settled_where m q k n)))
 
 -- the list of unknown atoms, one atom on
 module _ (q : Pair) (i : ℕ) where
-  pub unknown-less : known q i ≡ true → unknown_atoms q (i + 1) ≡ unknown_atoms q i
-  unknown-less e = rw add-one (ap (λ b. unknown_atoms q i ++ cond b [] (i ∷ [])) e ∙ append-nil (unknown_atoms q i))
+  pub unknown_less : known q i ≡ true → unknown_atoms q (i + 1) ≡ unknown_atoms q i
+  unknown_less e = rw add-one (ap (λ b. unknown_atoms q i ++ cond b [] (i ∷ [])) e ∙ append-nil (unknown_atoms q i))
 
-  pub unknown-more : known q i ≡ false → unknown_atoms q (i + 1) ≡ unknown_atoms q i ++ i ∷ []
-  unknown-more e = rw add-one (ap (λ b. unknown_atoms q i ++ cond b [] (i ∷ [])) e)
+  pub unknown_more : known q i ≡ false → unknown_atoms q (i + 1) ≡ unknown_atoms q i ++ i ∷ []
+  unknown_more e = rw add-one (ap (λ b. unknown_atoms q i ++ cond b [] (i ∷ [])) e)

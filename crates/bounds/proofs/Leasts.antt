@@ -11,10 +11,10 @@ module _ (rs : List Rule) (by : List ℕ) (f g : ℕ → Bool) (n : ℕ) (alike 
       tabled_alike (follows rs by f (steps rs by f n k)) (follows rs by g (steps rs by f n k)) n (λ a l. ap (λ b. b || derives rs by (steps rs by f n k) a) (alike a l))
       ∙ ap (step rs by g n) (steps_alike k)
 
-  pub least-alike : least rs by f n ≡ least rs by g n
+  pub least_alike : least rs by f n ≡ least rs by g n
   unfolding least
-  least-alike = steps_alike (suc n)
+  least_alike = steps_alike (suc n)
 
 -- so they can be written as a set
 pub least-tabled : (rs : List Rule) (by : List ℕ) (f : ℕ → Bool) (n : ℕ) → least rs by (has (tabled f 0 n)) n ≡ least rs by f n
-least-tabled rs by f n = least-alike rs by (has (tabled f 0 n)) f n (has-tabled f n)
+least-tabled rs by f n = least_alike rs by (has (tabled f 0 n)) f n (has-tabled f n)

@@ -19,14 +19,14 @@ module _ (m : Meaning) (passes : ℕ → Bool) (n k : ℕ) where
       same : (a : ℕ) → a < n → (eqb (m.atom k) a || some_below k (λ p. eqb (m.atom p) a && passes p)) ≡ ((eqb (m.atom k) a && passes k) || some_below k (λ p. eqb (m.atom p) a && passes p))
       same a l = ap (λ b. b || some_below k (λ p. eqb (m.atom p) a && passes p)) (sym (and_true (eqb (m.atom k) a) (passes k) e))
 
-  pub found-failed : passes k ≡ false → found m passes n (k + 1) ≡ found m passes n k
-  found-failed e = rw add-one (tabled_alike _ _ n same)
+  pub found_failed : passes k ≡ false → found m passes n (k + 1) ≡ found m passes n k
+  found_failed e = rw add-one (tabled_alike _ _ n same)
     where
       same : (a : ℕ) → a < n → ((eqb (m.atom k) a && passes k) || some_below k (λ p. eqb (m.atom p) a && passes p)) ≡ some_below k (λ p. eqb (m.atom p) a && passes p)
       same a l = ap (λ b. b || some_below k (λ p. eqb (m.atom p) a && passes p)) (and_right (eqb (m.atom k) a) (passes k) e)
 
-  pub found-past : n ≤ m.atom k → found m passes n (k + 1) ≡ found m passes n k
-  found-past past = rw add-one (tabled_alike _ _ n same)
+  pub found_past : n ≤ m.atom k → found m passes n (k + 1) ≡ found m passes n k
+  found_past past = rw add-one (tabled_alike _ _ n same)
     where
       same : (a : ℕ) → a < n → ((eqb (m.atom k) a && passes k) || some_below k (λ p. eqb (m.atom p) a && passes p)) ≡ some_below k (λ p. eqb (m.atom p) a && passes p)
       same a l = ap (λ b. b || some_below k (λ p. eqb (m.atom p) a && passes p)) (and_left (eqb (m.atom k) a) (passes k) (ne_eqb (m.atom k) a (λ e. omega arith)))

@@ -30,13 +30,13 @@ one_fails None (Some y) rest f e = e
 one_fails (Some x) y rest f e = e
 
 module _ (levels : List ℕ) (h : Head) (body : List Literal) (i : ℕ) (l : i < length body) where
-  pub literal-passed : None ≡ one_literal_fault levels h i (get_or body i no_literal) → literal_fault levels h i (drop i body) ≡ literal_fault levels h (i + 1) (drop (i + 1) body)
-  literal-passed e =
+  pub literal_passed : None ≡ one_literal_fault levels h i (get_or body i no_literal) → literal_fault levels h i (drop i body) ≡ literal_fault levels h (i + 1) (drop (i + 1) body)
+  literal_passed e =
       at_drop_more (literal_fault levels h i) body i no_literal l
       ∙ both_pass (range_check levels i (get_or body i no_literal)) (level_check levels h i (get_or body i no_literal)) (literal_fault levels h (suc i) (drop (i + 1) body)) e
       ∙ ap (λ j. literal_fault levels h j (drop (i + 1) body)) (sym (add-one i))
 
-  pub literal-refused : (f : Flaw) → Some f ≡ one_literal_fault levels h i (get_or body i no_literal) → Some f ≡ literal_fault levels h i (drop i body)
-  literal-refused f e =
+  pub literal_refused : (f : Flaw) → Some f ≡ one_literal_fault levels h i (get_or body i no_literal) → Some f ≡ literal_fault levels h i (drop i body)
+  literal_refused f e =
       one_fails (range_check levels i (get_or body i no_literal)) (level_check levels h i (get_or body i no_literal)) (literal_fault levels h (suc i) (drop (i + 1) body)) f e
       ∙ sym (at_drop_more (literal_fault levels h i) body i no_literal l)

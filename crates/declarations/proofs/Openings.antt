@@ -9,9 +9,9 @@ use Rattle.declarations.specs.Declaring.{in_line}
 use Rattle.declarations.specs.Shown.{opened}
 
 module _ (last : Letter) (n : ℕ) (lines rest : List (List ℕ)) (l : List ℕ) (front : List Field) (e : lines ≡ l ∷ rest) (f : front ≡ fields_from 0 l) where
-  opened-by : (r : Result Letter Refusal) → r ≡ opening last front
+  opened_by : (r : Result Letter Refusal) → r ≡ opening last front
       → opened last n lines ≡ then (in_line (n + 1) r) (λ letter. Ok (Some (record { letter = letter; fields = tail (fields_from 0 l); line = n + 1; rest = rest })))
-  opened-by r h =
+  opened_by r h =
       ap (opened last n) e
       ∙ ap (λ x. then (in_line (n + 1) x) (λ letter. Ok (Some (record { letter = letter; fields = tail (fields_from 0 l); line = n + 1; rest = rest })))) (sym (h ∙ ap (opening last) f))
 
@@ -20,10 +20,10 @@ module _ (last : Letter) (n : ℕ) (lines rest : List (List ℕ)) (l : List ℕ)
   opens letter after more h t m =
       ap (λ fs. Ok (Some (record { letter = letter; fields = fs; line = n + 1; rest = more }))) (t ∙ ap tail f)
       ∙ ap (λ ls. Ok (Some (record { letter = letter; fields = tail (fields_from 0 l); line = n + 1; rest = ls }))) m
-      ∙ sym (opened-by (Ok letter) h)
+      ∙ sym (opened_by (Ok letter) h)
 
   pub opens_not : (refusal : Refusal) → Err refusal ≡ opening last front → Err (record { number = number_of refusal.fault; line = n + 1; byte = refusal.byte }) ≡ opened last n lines
-  opens_not refusal h = sym (opened-by (Err refusal) h)
+  opens_not refusal h = sym (opened_by (Err refusal) h)
 
 pub rest_there : (text : List ℕ) (at k : ℕ) → lines_of (drop (at + (k + 1)) text) ≡ lines_of (drop (at + k + 1) text)
 rest_there text at k = let a : at + (k + 1) ≡ at + k + 1 = omega arith in ap (λ j. lines_of (drop j text)) a

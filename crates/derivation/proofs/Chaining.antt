@@ -109,98 +109,98 @@ module _ (n m : ℕ) where
     }
 
     -- the new front leads to line j and where the old one did
-    lead-front : (k i : ℕ) → T (eqb j i || leads after.cells k (get_or ch.first a 0) i) → Lead after a i
-    lead-front k i h =
+    lead_front : (k i : ℕ) → T (eqb j i || leads after.cells k (get_or ch.first a 0) i) → Lead after a i
+    lead_front k i h =
         let last = get_or_push ch.cells cell no_cell (length ch.cells) refl in
         let e : suc (length ch.cells) ≡ get_or after.first a 0 = omega (arith, front) in
         subst (λ c. Leads after.cells c i) e (suc k, rw last h)
 
     put-leads : Lead after a j
-    put-leads = lead-front 0 j (or_left (eqb j j) false (eqb_refl j))
+    put-leads = lead_front 0 j (or_left (eqb j j) false (eqb_refl j))
 
     put_keeps : (b i : ℕ) → Lead ch b i → Lead after b i
     put_keeps b i (k, h) =
         let longer = leads_longer ch.cells cell linked.older k (get_or ch.first b 0) i (linked.begins b) h in
         elim (cases_eq b a) [
-          | inl e ↦ subst (λ x. Lead after x i) (sym e) (lead-front k i (or_right (eqb j i) (leads after.cells k (get_or ch.first a 0) i) (subst (λ x. T (leads after.cells k (get_or ch.first x 0) i)) e longer)))
+          | inl e ↦ subst (λ x. Lead after x i) (sym e) (lead_front k i (or_right (eqb j i) (leads after.cells k (get_or ch.first a 0) i) (subst (λ x. T (leads after.cells k (get_or ch.first x 0) i)) e longer)))
           | inr other ↦ (k, rw (get_or-set_other ch.first a b (length ch.cells + 1) 0 other) longer)
         ]
 
   -- one literal
   module _ (j : ℕ) (named : j < m) (a : ℕ) (below : a < n) (ch : Chains) (linked : Linked n m ch) where
-    literal-linked : (d : Side) → Linked n m (put_literal j d a ch)
-    literal-linked Present = put_linked ch linked j named a below
-    literal-linked Absent = linked
+    literal_linked : (d : Side) → Linked n m (put_literal j d a ch)
+    literal_linked Present = put_linked ch linked j named a below
+    literal_linked Absent = linked
 
-    literal-leads : (d : Side) (b : ℕ) → T (plainly b d a) → Lead (put_literal j d a ch) b j
-    literal-leads Present b h = subst (λ x. Lead (put j a ch) x j) (eqb→eq a b h) (put-leads ch linked j named a below)
-    literal-leads Absent b h = absurd h
+    literal_leads : (d : Side) (b : ℕ) → T (plainly b d a) → Lead (put_literal j d a ch) b j
+    literal_leads Present b h = subst (λ x. Lead (put j a ch) x j) (eqb→eq a b h) (put-leads ch linked j named a below)
+    literal_leads Absent b h = absurd h
 
-    literal-keeps : (d : Side) (b i : ℕ) → Lead ch b i → Lead (put_literal j d a ch) b i
-    literal-keeps Present b i h = put_keeps ch linked j named a below b i h
-    literal-keeps Absent b i h = h
+    literal_keeps : (d : Side) (b i : ℕ) → Lead ch b i → Lead (put_literal j d a ch) b i
+    literal_keeps Present b i h = put_keeps ch linked j named a below b i h
+    literal_keeps Absent b i h = h
 
   -- a body
   module _ (j : ℕ) (named : j < m) where
     abbrev Below : List Literal → Type 0
     Below ls = T (all (λ l. ltb l.atom n) ls)
 
-    body-linked : (ls : List Literal) → Below ls → (ch : Chains) → Linked n m ch → Linked n m (put_body j ls ch)
-    body-linked [] below ch linked = linked
-    body-linked (l ∷ ls) below ch linked =
+    body_linked : (ls : List Literal) → Below ls → (ch : Chains) → Linked n m ch → Linked n m (put_body j ls ch)
+    body_linked [] below ch linked = linked
+    body_linked (l ∷ ls) below ch linked =
         let here = ltb→lt l.atom n (and_left (ltb l.atom n) (all (λ x. ltb x.atom n) ls) below) in
-        body-linked ls (and_right (ltb l.atom n) (all (λ x. ltb x.atom n) ls) below) (put_literal j l.side l.atom ch) (literal-linked j named l.atom here ch linked l.side)
+        body_linked ls (and_right (ltb l.atom n) (all (λ x. ltb x.atom n) ls) below) (put_literal j l.side l.atom ch) (literal_linked j named l.atom here ch linked l.side)
 
-    body-keeps : (ls : List Literal) → Below ls → (ch : Chains) → Linked n m ch → (b i : ℕ) → Lead ch b i → Lead (put_body j ls ch) b i
-    body-keeps [] below ch linked b i h = h
-    body-keeps (l ∷ ls) below ch linked b i h =
+    body_keeps : (ls : List Literal) → Below ls → (ch : Chains) → Linked n m ch → (b i : ℕ) → Lead ch b i → Lead (put_body j ls ch) b i
+    body_keeps [] below ch linked b i h = h
+    body_keeps (l ∷ ls) below ch linked b i h =
         let here = ltb→lt l.atom n (and_left (ltb l.atom n) (all (λ x. ltb x.atom n) ls) below) in
-        body-keeps ls (and_right (ltb l.atom n) (all (λ x. ltb x.atom n) ls) below) (put_literal j l.side l.atom ch) (literal-linked j named l.atom here ch linked l.side) b i
-        (literal-keeps j named l.atom here ch linked l.side b i h)
+        body_keeps ls (and_right (ltb l.atom n) (all (λ x. ltb x.atom n) ls) below) (put_literal j l.side l.atom ch) (literal_linked j named l.atom here ch linked l.side) b i
+        (literal_keeps j named l.atom here ch linked l.side b i h)
 
-    body-leads : (ls : List Literal) → Below ls → (ch : Chains) → Linked n m ch → (b : ℕ) → T (any (λ l. plainly b l.side l.atom) ls) → Lead (put_body j ls ch) b j
-    body-leads [] below ch linked b h = absurd h
-    body-leads (l ∷ ls) below ch linked b h =
+    body_leads : (ls : List Literal) → Below ls → (ch : Chains) → Linked n m ch → (b : ℕ) → T (any (λ l. plainly b l.side l.atom) ls) → Lead (put_body j ls ch) b j
+    body_leads [] below ch linked b h = absurd h
+    body_leads (l ∷ ls) below ch linked b h =
         let here = ltb→lt l.atom n (and_left (ltb l.atom n) (all (λ x. ltb x.atom n) ls) below) in
         let rest = and_right (ltb l.atom n) (all (λ x. ltb x.atom n) ls) below in
         let next = put_literal j l.side l.atom ch in
-        let next-linked = literal-linked j named l.atom here ch linked l.side in
+        let next-linked = literal_linked j named l.atom here ch linked l.side in
         elim (or_cases (plainly b l.side l.atom) (any (λ x. plainly b x.side x.atom) ls) h) [
-          | inl k ↦ body-keeps ls rest next next-linked b j (literal-leads j named l.atom here ch linked l.side b k)
-          | inr k ↦ body-leads ls rest next next-linked b k
+          | inl k ↦ body_keeps ls rest next next-linked b j (literal_leads j named l.atom here ch linked l.side b k)
+          | inr k ↦ body_leads ls rest next next-linked b k
         ]
 
   -- the lines from number j on
-  abbrev All-below : List Rule → Type 0
-  All-below rs = T (all (rule_below n) rs)
+  abbrev AllBelow : List Rule → Type 0
+  AllBelow rs = T (all (rule_below n) rs)
 
-  first_below : (r : Rule) (rs : List Rule) → All-below (r ∷ rs) → T (all (λ l. ltb l.atom n) r.body)
+  first_below : (r : Rule) (rs : List Rule) → AllBelow (r ∷ rs) → T (all (λ l. ltb l.atom n) r.body)
   first_below r rs below = and_right (head_below n r.head) _ (and_left (rule_below n r) (all (rule_below n) rs) below)
 
-  rules-linked : (rs : List Rule) → All-below rs → (j : ℕ) → j + length rs ≤ m → (ch : Chains) → Linked n m ch → Linked n m (put_rules j rs ch)
-  rules-linked [] below j l ch linked = linked
-  rules-linked (r ∷ rs) below j l ch linked =
-      rules-linked rs (and_right (rule_below n r) (all (rule_below n) rs) below) (j + 1) (omega arith) (put_body j r.body ch) (body-linked j (omega arith) r.body (first_below r rs below) ch linked)
+  rules_linked : (rs : List Rule) → AllBelow rs → (j : ℕ) → j + length rs ≤ m → (ch : Chains) → Linked n m ch → Linked n m (put_rules j rs ch)
+  rules_linked [] below j l ch linked = linked
+  rules_linked (r ∷ rs) below j l ch linked =
+      rules_linked rs (and_right (rule_below n r) (all (rule_below n) rs) below) (j + 1) (omega arith) (put_body j r.body ch) (body_linked j (omega arith) r.body (first_below r rs below) ch linked)
 
-  rules-keeps : (rs : List Rule) → All-below rs → (j : ℕ) → j + length rs ≤ m → (ch : Chains) → Linked n m ch → (b i : ℕ) → Lead ch b i → Lead (put_rules j rs ch) b i
-  rules-keeps [] below j l ch linked b i h = h
-  rules-keeps (r ∷ rs) below j l ch linked b i h =
+  rules_keeps : (rs : List Rule) → AllBelow rs → (j : ℕ) → j + length rs ≤ m → (ch : Chains) → Linked n m ch → (b i : ℕ) → Lead ch b i → Lead (put_rules j rs ch) b i
+  rules_keeps [] below j l ch linked b i h = h
+  rules_keeps (r ∷ rs) below j l ch linked b i h =
       let one = first_below r rs below in
-      rules-keeps rs (and_right (rule_below n r) (all (rule_below n) rs) below) (j + 1) (omega arith) (put_body j r.body ch) (body-linked j (omega arith) r.body one ch linked) b i
-      (body-keeps j (omega arith) r.body one ch linked b i h)
+      rules_keeps rs (and_right (rule_below n r) (all (rule_below n) rs) below) (j + 1) (omega arith) (put_body j r.body ch) (body_linked j (omega arith) r.body one ch linked) b i
+      (body_keeps j (omega arith) r.body one ch linked b i h)
 
-  rules-lead : (rs : List Rule) → All-below rs → (j : ℕ) → j + length rs ≤ m → (ch : Chains) → Linked n m ch → (b i : ℕ) → i < length rs → T (needs_atom b (get_or rs i no_rule)) → Lead (put_rules j rs ch) b (j + i)
-  rules-lead [] below j l ch linked b i k h = absurd (omega arith)
-  rules-lead (r ∷ rs) below j l ch linked b zero k h =
+  rules_lead : (rs : List Rule) → AllBelow rs → (j : ℕ) → j + length rs ≤ m → (ch : Chains) → Linked n m ch → (b i : ℕ) → i < length rs → T (needs_atom b (get_or rs i no_rule)) → Lead (put_rules j rs ch) b (j + i)
+  rules_lead [] below j l ch linked b i k h = absurd (omega arith)
+  rules_lead (r ∷ rs) below j l ch linked b zero k h =
       let one = first_below r rs below in
       let e : j ≡ j + 0 = omega arith in
       subst (Lead (put_rules j (r ∷ rs) ch) b) e
-      (rules-keeps rs (and_right (rule_below n r) (all (rule_below n) rs) below) (j + 1) (omega arith) (put_body j r.body ch) (body-linked j (omega arith) r.body one ch linked) b j
-      (body-leads j (omega arith) r.body one ch linked b h))
-  rules-lead (r ∷ rs) below j l ch linked b (suc i) k h =
+      (rules_keeps rs (and_right (rule_below n r) (all (rule_below n) rs) below) (j + 1) (omega arith) (put_body j r.body ch) (body_linked j (omega arith) r.body one ch linked) b j
+      (body_leads j (omega arith) r.body one ch linked b h))
+  rules_lead (r ∷ rs) below j l ch linked b (suc i) k h =
       let e : j + 1 + i ≡ j + suc i = omega arith in
       subst (Lead (put_rules j (r ∷ rs) ch) b) e
-      (rules-lead rs (and_right (rule_below n r) (all (rule_below n) rs) below) (j + 1) (omega arith) (put_body j r.body ch) (body-linked j (omega arith) r.body (first_below r rs below) ch linked) b i (omega arith) h)
+      (rules_lead rs (and_right (rule_below n r) (all (rule_below n) rs) below) (j + 1) (omega arith) (put_body j r.body ch) (body_linked j (omega arith) r.body (first_below r rs below) ch linked) b i (omega arith) h)
 
 none_linked : (n m : ℕ) → Linked n m (no_chains n)
 none_linked n m = record {
@@ -219,13 +219,13 @@ pub indexed : (n : ℕ) (rs : List Rule) → T (all (rule_below n) rs) → Index
 unfolding index_of
 indexed n rs below =
     let m = length rs in
-    let linked = rules-linked n m rs below 0 (omega arith) (no_chains n) (none_linked n m) in
+    let linked = rules_linked n m rs below 0 (omega arith) (no_chains n) (none_linked n m) in
     record {
       size = linked.size;
       begins = linked.begins;
       older = linked.older;
       names = linked.names;
-      complete = λ a j l h. let e : 0 + j ≡ j = omega arith in subst (Lead (put_rules 0 rs (no_chains n)) a) e (rules-lead n m rs below 0 (omega arith) (no_chains n) (none_linked n m) a j l h);
+      complete = λ a j l h. let e : 0 + j ≡ j = omega arith in subst (Lead (put_rules 0 rs (no_chains n)) a) e (rules_lead n m rs below 0 (omega arith) (no_chains n) (none_linked n m) a j l h);
     }
 
 -- chains of the same numbers are the same

@@ -13,9 +13,9 @@ use Rattle.lines.proofs.Reading.{rule_read, rules_count}
 use Rattle.derivation.proofs.Working.{start, fire}
 
 module _ (ls : List Line) (by : List ℕ) (i : ℕ) (l : Line) (here : i < length ls) (read : l ≡ get_or ls i l) where
-  pub fire-line : (todo todo' : ℕ → Type 0) → ((j : ℕ) → todo j → todo' j ⊎ (j ≡ i)) → (model pending model' pending' : List ℕ) →
+  pub fire_line : (todo todo' : ℕ → Type 0) → ((j : ℕ) → todo j → todo' j ⊎ (j ≡ i)) → (model pending model' pending' : List ℕ) →
       model' ≡ joined_by model (newly by model (rule_of l)) → pending' ≡ pending ++ newly by model (rule_of l) → Advances (rules_of ls) by todo todo' model pending model' pending'
-  fire-line todo todo' less model pending model' pending' e f bare u =
+  fire_line todo todo' less model pending model' pending' e f bare u =
       let r = rule_read ls i l here read in
       let v = fire (rules_of ls) by bare todo model pending u i (omega (arith, rules_count ls)) todo' less in
       let g = e ∙ ap (λ q. joined_by model (newly by model q)) (sym r) in

@@ -16,17 +16,17 @@ index_none n = refl
 
 -- every rule, and the last one
 module _ (n : ℕ) where
-  pub below-push : (ls : List Line) (l : Line) → T (all (rule_below n) (rules_of ls)) → T (rule_below n (rule_of l)) → T (all (rule_below n) (rules_of (ls ++ l ∷ [])))
-  below-push [] l h k = and_from (rule_below n (rule_of l)) (all (rule_below n) []) k tt
-  below-push (x ∷ ls) l h k =
+  pub below_push : (ls : List Line) (l : Line) → T (all (rule_below n) (rules_of ls)) → T (rule_below n (rule_of l)) → T (all (rule_below n) (rules_of (ls ++ l ∷ [])))
+  below_push [] l h k = and_from (rule_below n (rule_of l)) (all (rule_below n) []) k tt
+  below_push (x ∷ ls) l h k =
       and_from (rule_below n (rule_of x)) (all (rule_below n) (rules_of (ls ++ l ∷ []))) (and_left (rule_below n (rule_of x)) (all (rule_below n) (rules_of ls)) h)
-      (below-push ls l (and_right (rule_below n (rule_of x)) (all (rule_below n) (rules_of ls)) h) k)
+      (below_push ls l (and_right (rule_below n (rule_of x)) (all (rule_below n) (rules_of ls)) h) k)
 
-  pub below-front : (ls : List Line) (l : Line) → T (all (rule_below n) (rules_of (ls ++ l ∷ []))) → T (all (rule_below n) (rules_of ls))
-  below-front [] l h = tt
-  below-front (x ∷ ls) l h =
+  pub below_front : (ls : List Line) (l : Line) → T (all (rule_below n) (rules_of (ls ++ l ∷ []))) → T (all (rule_below n) (rules_of ls))
+  below_front [] l h = tt
+  below_front (x ∷ ls) l h =
       and_from (rule_below n (rule_of x)) (all (rule_below n) (rules_of ls)) (and_left (rule_below n (rule_of x)) (all (rule_below n) (rules_of (ls ++ l ∷ []))) h)
-      (below-front ls l (and_right (rule_below n (rule_of x)) (all (rule_below n) (rules_of (ls ++ l ∷ []))) h))
+      (below_front ls l (and_right (rule_below n (rule_of x)) (all (rule_below n) (rules_of (ls ++ l ∷ []))) h))
 
   pub below_last : (ls : List Line) (l : Line) → T (all (rule_below n) (rules_of (ls ++ l ∷ []))) → T (rule_below n (rule_of l))
   below_last [] l h = and_left (rule_below n (rule_of l)) (all (rule_below n) []) h

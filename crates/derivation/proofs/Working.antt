@@ -9,10 +9,10 @@ use Rattle.semantics.specs.declared.Head.{Head}
 use Rattle.semantics.specs.declared.Head.TheVariants.{Bar, Atom}
 use Rattle.semantics.specs.Sets.{has, ◌⊆◌, Canonical, ◌∈◌, any, all}
 use Rattle.semantics.specs.Rules.{Rule, literal_holds, body_holds, heads, derives, follows, least, rule_below, head_below}
-use Rattle.semantics.proofs.Booleans.{or_cases, or_left, or_right, and_left, and_right, and_from, fails, holds, all-each, any-from}
+use Rattle.semantics.proofs.Booleans.{or_cases, or_left, or_right, and_left, and_right, and_from, fails, holds, all_each, any_from}
 use Rattle.semantics.proofs.Bytes.{has_below, has-set, set_canonical, set_more, set_cases}
-use Rattle.semantics.proofs.LeastModel.{body-mono, heads_below, least_step, is-least}
-use Rattle.semantics.proofs.Members.{in_append_left, in_append_right, in-append-cases}
+use Rattle.semantics.proofs.LeastModel.{body_mono, heads_below, least_step, is_least}
+use Rattle.semantics.proofs.Members.{in_append_left, in_append_right, in_append_cases}
 use Rattle.lines.specs.Lines.{no_rule}
 use Rattle.derivation.specs.Indexing.{plainly, needs_atom}
 use Rattle.derivation.specs.Worklist.{due, newly, joined_by, HasHead, Underway, From, Nothing}
@@ -77,8 +77,8 @@ module _ (rs : List Rule) (by bare : List ℕ) where
     fired = λ j l h. inr (omega arith);
   }
 
-  head-from : (s : List ℕ) (h : ℕ) → T (has s h) → {g : Head} → g ≡ Atom h → HasHead s g
-  head-from s h k e a z = subst (λ b. T (has s b)) (eqb→eq h a (subst (λ g. T (heads g a)) e z)) k
+  head_from : (s : List ℕ) (h : ℕ) → T (has s h) → {g : Head} → g ≡ Atom h → HasHead s g
+  head_from s h k e a z = subst (λ b. T (has s b)) (eqb→eq h a (subst (λ g. T (heads g a)) e z)) k
 
   -- what is to do may be settled
   settle : (todo : ℕ → Type 0) (model pending : List ℕ) → Underway rs by bare todo model pending → (todo' : ℕ → Type 0) →
@@ -96,7 +96,7 @@ module _ (rs : List Rule) (by bare : List ℕ) where
     sound = u.sound;
     fired = λ j l h. elim (u.fired j l h) [
       | inl k ↦ inl k
-      | inr t ↦ f j l t (body-mono u.used model by by u.low (λ a x. x) (rule j).body h)
+      | inr t ↦ f j l t (body_mono u.used model by by u.low (λ a x. x) (rule j).body h)
     ];
   }
 
@@ -105,7 +105,7 @@ module _ (rs : List Rule) (by bare : List ℕ) where
 
   module _ (todo : ℕ → Type 0) (model pending : List ℕ) (u : Underway rs by bare todo model pending) where
     head_in : (j : ℕ) → j < length rs → T (head_below n (rule j).head)
-    head_in j l = and_left (head_below n (rule j).head) _ (all-each (rule_below n) rs (rule j) u.below (at_place no_rule rs j l))
+    head_in j l = and_left (head_below n (rule j).head) _ (all_each (rule_below n) rs (rule j) u.below (at_place no_rule rs j l))
 
     -- a derived atom comes in, and waits
     add : (h : ℕ) → h < n → T (derives rs by model h) → Underway rs by bare todo (set model h 1) (pending ++ h ∷ [])
@@ -121,7 +121,7 @@ module _ (rs : List Rule) (by bare : List ℕ) where
         | inl e ↦ inr (in_append_right pending (h ∷ []) a (inl e))
         | inr k ↦ elim (u.high a k) [ inl y ↦ inl y | inr y ↦ inr (in_append_left pending (h ∷ []) a y) ]
       ];
-      waiting = λ a x. elim (in-append-cases pending (h ∷ []) a x) [
+      waiting = λ a x. elim (in_append_cases pending (h ∷ []) a x) [
         | inl y ↦ set_more model h a (u.waiting a y)
         | inr y ↦ elim y [ inl e ↦ rw e (has-set model h (omega (arith, u.canonical.size))) | inr none ↦ absurd none ]
       ];
@@ -134,29 +134,29 @@ module _ (rs : List Rule) (by bare : List ℕ) where
 
     derived : (j h : ℕ) → j < length rs → (rule j).head ≡ Atom h → T (body_holds model by (rule j).body) → T (derives rs by model h)
     derived j h l e b =
-        any-from (λ r. heads r.head h && body_holds model by r.body) rs (rule j) (at_place no_rule rs j l)
+        any_from (λ r. heads r.head h && body_holds model by r.body) rs (rule j) (at_place no_rule rs j l)
         (and_from (heads (rule j).head h) (body_holds model by (rule j).body) (rw e (atom_heads h)) b)
 
     -- a rule is fired
     module _ (i : ℕ) (here : i < length rs) (todo' : ℕ → Type 0) (less : (j : ℕ) → todo j → todo' j ⊎ (j ≡ i)) where
       -- nothing new comes of it, since its body fails or its head is there
-      fire-none : (T (body_holds model by (rule i).body) → HasHead model (rule i).head) → Underway rs by bare todo' model (pending ++ [])
-      fire-none f = subst (Underway rs by bare todo' model) (sym (append-nil pending)) (settle todo model pending u todo' (λ j l t b. elim (less j t) [
+      fire_none : (T (body_holds model by (rule i).body) → HasHead model (rule i).head) → Underway rs by bare todo' model (pending ++ [])
+      fire_none f = subst (Underway rs by bare todo' model) (sym (append-nil pending)) (settle todo model pending u todo' (λ j l t b. elim (less j t) [
         | inl t' ↦ inr t'
         | inr e ↦ inl (subst (λ k. HasHead model (rule k).head) (sym e) (f (subst (λ k. T (body_holds model by (rule k).body)) e b)))
       ]))
 
-      fire-atom : (h : ℕ) → (rule i).head ≡ Atom h → (x y : Bool) → has model h ≡ x → body_holds model by (rule i).body ≡ y →
+      fire_atom : (h : ℕ) → (rule i).head ≡ Atom h → (x y : Bool) → has model h ≡ x → body_holds model by (rule i).body ≡ y →
           Underway rs by bare todo' (joined_by model (cond (not x && y) (h ∷ []) [])) (pending ++ cond (not x && y) (h ∷ []) [])
-      fire-atom h e true y p q = fire-none (λ b. head-from model h (holds (has model h) p) e)
-      fire-atom h e false false p q = fire-none (λ b. absurd (fails (body_holds model by (rule i).body) q b))
-      fire-atom h e false true p q =
+      fire_atom h e true y p q = fire_none (λ b. head_from model h (holds (has model h) p) e)
+      fire_atom h e false false p q = fire_none (λ b. absurd (fails (body_holds model by (rule i).body) q b))
+      fire_atom h e false true p q =
           let below : h < n = heads_below n (rule i).head h (rw e (atom_heads h)) (head_in i here) in
           let grown = add h below (derived i h here e (holds (body_holds model by (rule i).body) q)) in
           let there = has-set model h (omega (arith, u.canonical.size)) in
           settle todo (set model h 1) (pending ++ h ∷ []) grown todo' (λ j l t b. elim (less j t) [
             | inl t' ↦ inr t'
-            | inr same ↦ inl (head-from (set model h 1) h there (ap (λ k. (rule k).head) same ∙ e))
+            | inr same ↦ inl (head_from (set model h 1) h there (ap (λ k. (rule k).head) same ∙ e))
           ])
 
       pub fire : Underway rs by bare todo' (joined_by model (newly by model (rule i))) (pending ++ newly by model (rule i))
@@ -164,11 +164,11 @@ module _ (rs : List Rule) (by bare : List ℕ) where
         where
           go : (g : Head) → (rule i).head ≡ g →
               Underway rs by bare todo' (joined_by model (due model (body_holds model by (rule i).body) g)) (pending ++ due model (body_holds model by (rule i).body) g)
-          go Bar e = fire-none (λ b. rw e (λ a z. absurd z))
-          go (Atom h) e = fire-atom h e (has model h) (body_holds model by (rule i).body) refl refl
+          go Bar e = fire_none (λ b. rw e (λ a z. absurd z))
+          go (Atom h) e = fire_atom h e (has model h) (body_holds model by (rule i).body) refl refl
 
-  pub waits-below : (todo : ℕ → Type 0) (model pending : List ℕ) → Underway rs by bare todo model pending → (a : ℕ) → a ∈ pending → a < n
-  waits-below todo model pending u a m = has_below u.canonical a (u.waiting a m)
+  pub waits_below : (todo : ℕ → Type 0) (model pending : List ℕ) → Underway rs by bare todo model pending → (a : ℕ) → a ∈ pending → a < n
+  waits_below todo model pending u a m = has_below u.canonical a (u.waiting a m)
 
   -- the last atom that waits is used, and the rules that ask for it are to do
   pub take_last : (model pending : List ℕ) (a : ℕ) → Underway rs by bare Nothing model (pending ++ a ∷ []) → (todo : ℕ → Type 0) →
@@ -180,10 +180,10 @@ module _ (rs : List Rule) (by bare : List ℕ) where
     size = length-set u.used a 1 ∙ u.size;
     canonical = u.canonical;
     begun = u.begun;
-    low = λ b x. elim (set_cases u.used a b x) [ inl e ↦ rw e in-model | inr k ↦ u.low b k ];
+    low = λ b x. elim (set_cases u.used a b x) [ inl e ↦ rw e in_model | inr k ↦ u.low b k ];
     high = λ b x. elim (u.high b x) [
       | inl k ↦ inl (set_more u.used a b k)
-      | inr m ↦ elim (in-append-cases pending (a ∷ []) b m) [
+      | inr m ↦ elim (in_append_cases pending (a ∷ []) b m) [
         | inl k ↦ inr k
         | inr k ↦ elim k [ inl e ↦ inl (rw e (has-set u.used a below)) | inr none ↦ absurd none ]
       ]
@@ -196,18 +196,18 @@ module _ (rs : List Rule) (by bare : List ℕ) where
     ];
   }
     where
-      in-model : T (has model a)
-      in-model = u.waiting a (in_append_right pending (a ∷ []) a (inl refl))
+      in_model : T (has model a)
+      in_model = u.waiting a (in_append_right pending (a ∷ []) a (inl refl))
 
       below : a < length u.used
-      below = omega (arith, has_below u.canonical a in-model, u.size)
+      below = omega (arith, has_below u.canonical a in_model, u.size)
 
   -- nothing waits and nothing is to do
   pub finish : (model : List ℕ) → Underway rs by bare Nothing model [] → model ≡ least rs by (has bare) n
-  finish model u = is-least rs by (has bare) n u.below (has_below u.given) model u.canonical closed u.sound
+  finish model u = is_least rs by (has bare) n u.below (has_below u.given) model u.canonical closed u.sound
     where
-      all-used : model ⊆ u.used
-      all-used a h = elim (u.high a h) [ inl k ↦ k | inr none ↦ absurd none ]
+      all_used : model ⊆ u.used
+      all_used a h = elim (u.high a h) [ inl k ↦ k | inr none ↦ absurd none ]
 
       closed : (a : ℕ) → T (follows rs by (has bare) model a) → T (has model a)
       closed a h = elim (or_cases (has bare a) (derives rs by model a) h) [
@@ -215,7 +215,7 @@ module _ (rs : List Rule) (by bare : List ℕ) where
         | inr k ↦
             let r = any-placed no_rule (λ q. heads q.head a && body_holds model by q.body) rs k in
             let q = rule r.0 in
-            elim (u.fired r.0 r.1 (body-mono model u.used by by all-used (λ b x. x) q.body (and_right (heads q.head a) (body_holds model by q.body) r.2))) [
+            elim (u.fired r.0 r.1 (body_mono model u.used by by all_used (λ b x. x) q.body (and_right (heads q.head a) (body_holds model by q.body) r.2))) [
               | inl y ↦ y a (and_left (heads q.head a) (body_holds model by q.body) r.2)
               | inr none ↦ absurd none
             ]

@@ -23,8 +23,8 @@ module _ (cs : List Literal) (c : Literal) (bytes : List ℕ) (marked : Marked c
         | inr other ↦ ap mark_in (get_or-set_other bytes c.atom a b 0 (λ k. other (sym k))) ∙ marked a within ∙ sym (ap (λ t. cond t (Some c.side) (marks_of cs a)) (ne_eqb c.atom a other))
       ]
 
-  pub marked-past : length bytes ≤ c.atom → Marked (c ∷ cs) bytes
-  marked-past past a l =
+  pub marked_past : length bytes ≤ c.atom → Marked (c ∷ cs) bytes
+  marked_past past a l =
       let other : c.atom ≢ a = omega arith in
       marked a l ∙ sym (ap (λ t. cond t (Some c.side) (marks_of cs a)) (ne_eqb c.atom a other))
 

@@ -7,7 +7,7 @@ use Rattle.semantics.specs.Sets.{has, ◌⊆◌}
 use Rattle.semantics.specs.Plans.{Program}
 use Rattle.semantics.specs.Alternating.{Pair, clashes, contradictory}
 use Rattle.semantics.specs.Search.{Open}
-use Rattle.semantics.proofs.Booleans.{true_from, holds, fails, same_tests, and_from, some-from}
+use Rattle.semantics.proofs.Booleans.{true_from, holds, fails, same_tests, and_from, some_from}
 use Rattle.enumeration.specs.Nodes.{WithinBelow, LowestBeyond, FirstBeyond}
 
 -- a set has no atom past its bytes
@@ -28,16 +28,16 @@ beyond_none s t None h e = h
 beyond_none s t (Some a) h e = let z : ◌≡◌ {A = ℕ} 0 1 = cc in absurd (omega arith)
 
 module _ (p : Program) (q : Pair) where
-  pub clash-refutes : (o : Option ℕ) → length q.sure ≡ p.atoms → FirstBeyond q.sure q.possible o → is_some o ≡ true → contradictory p q ≡ true
-  clash-refutes None size h e = let z : ◌≡◌ {A = ℕ} 0 1 = cc in absurd (omega arith)
-  clash-refutes (Some a) size h e =
+  pub clash_refutes : (o : Option ℕ) → length q.sure ≡ p.atoms → FirstBeyond q.sure q.possible o → is_some o ≡ true → contradictory p q ≡ true
+  clash_refutes None size h e = let z : ◌≡◌ {A = ℕ} 0 1 = cc in absurd (omega arith)
+  clash_refutes (Some a) size h e =
       let below = h.below in
       true_from (contradictory p q)
-      (some-from (clashes q) p.atoms a (omega arith)
+      (some_from (clashes q) p.atoms a (omega arith)
       (and_from (has q.sure a) (not (has q.possible a)) (holds (has q.sure a) h.member) (not_T (has q.possible a) (fails (has q.possible a) h.beyond))))
 
-  pub lowest-open : (a : ℕ) → length q.possible ≡ p.atoms → q.sure ⊆ q.possible → LowestBeyond q.possible q.sure a → Open p q a
-  lowest-open a size low h = let below = h.below in record {
+  pub lowest_open : (a : ℕ) → length q.possible ≡ p.atoms → q.sure ⊆ q.possible → LowestBeyond q.possible q.sure a → Open p q a
+  lowest_open a size low h = let below = h.below in record {
     below = omega arith;
     unsure = h.beyond;
     possible = h.member;

@@ -5,7 +5,7 @@ use Rattle.std.proofs.lemmas.Bool.{le-ltb}
 use Rattle.semantics.specs.declared.Literal.{Literal}
 use Rattle.semantics.specs.Plans.{Program, plans}
 use Rattle.semantics.specs.Search.{absent, Seeks}
-use Rattle.semantics.proofs.Stacks.{free-few}
+use Rattle.semantics.proofs.Stacks.{free_few}
 use Rattle.enumeration.specs.Visits.{GoesOn}
 
 module _ (p : Program) (node : Option (List Literal)) (cs : List Literal) (set : List ℕ) where
@@ -21,4 +21,4 @@ module _ (p : Program) (node : Option (List Literal)) (cs : List Literal) (set :
 
   -- free choices never fill their room
   pub no_room : (a : ℕ) (held : List Literal) → p.atoms ≤ length held → GoesOn p node (Some (absent a ∷ held)) → Seeks p node cs set false
-  no_room a held full goes k ok here = let few = free-few p.atoms (absent a ∷ held) (goes k ok here).free in absurd (omega arith)
+  no_room a held full goes k ok here = let few = free_few p.atoms (absent a ∷ held) (goes k ok here).free in absurd (omega arith)

@@ -20,8 +20,8 @@ use Rattle.grammar.specs.Texts.{Described, described, on_sheet}
 use Rattle.grammar.specs.Format.{Named, Record, atom, row, line, bar, digits, literal_text, letter_text, letter, fields, line_text, unlines, commas, place, literal_named, with_record, meant_after, Known, AllKnown, Allowed, ValidAfter, RowsBelow, AcceptedIsRendered}
 use Rattle.grammar.proofs.Wording.{err_is_not_ok, then_ok, cond_ok, unless_ok, ok_or-ok, level-written, letter-written}
 use Rattle.grammar.proofs.Splitting.{commas-fields, unlines_lines}
-use Rattle.grammar.proofs.Fitting.{Fitted, fitted_none, fitted-atom, fitted-row, laid-fits}
-use Rattle.grammar.proofs.Entering.{entered-fits, fits_below}
+use Rattle.grammar.proofs.Fitting.{Fitted, fitted_none, fitted_atom, fitted_row, laid_fits}
+use Rattle.grammar.proofs.Entering.{entered_fits, fits_below}
 use Rattle.grammar.proofs.Meanings.{known-ok, known_below, literals-written}
 
 pub in_line-ok : {X : Type 0} (n : ℕ) (r : Result X Refusal) (x : X) → in_line n r ≡ Ok x → r ≡ Ok x
@@ -128,7 +128,7 @@ atom_declared d k fs more h fit =
     let w = atom_written d.names k fs p.0 p.1 in
     let same : with_atom d p.0 ≡ more = let e = p.2 in cc in (
       record { by = atom p.0.name p.0.level; lettered = refl; fielded = w.0; allowed = (w.1, w.2, w.3, w.4); adds = sym (ap (λ x. described x []) same) },
-      subst Fits same (fitted-atom d.names d.levels d.rows fit p.0.name p.0.level w.3 w.4),
+      subst Fits same (fitted_atom d.names d.levels d.rows fit p.0.name p.0.level w.3 w.4),
     )
 
 row-declared : (d : Declared) (k : ℕ) (fs : List (List ℕ)) (more : Declared) → declaration Row d (placed k fs) ≡ Ok more → Fits d
@@ -149,7 +149,7 @@ row-declared d k fs more h fit =
         adds = sym (ap (λ y. described y []) same) ∙ ap (λ r. record { names = names; levels = d.levels; rows = d.rows ++ r ∷ []; rules = [] }) meaning;
       },
       subst Fits same
-          (fitted-row names d.levels d.rows fit x.row
+          (fitted_row names d.levels d.rows fit x.row
           (let l = known_below names w.0 w.4 in let e = ap (λ r. r.one) meaning in rw e l)
           (let l = known_below names w.1 w.5 in let e = ap (λ r. r.other) meaning in rw e l)
           (let l = known_below names w.2 w.6 in let e = ap (λ r. r.to) meaning in rw e l)),
@@ -158,12 +158,12 @@ row-declared d k fs more h fit =
 -- A LINE OR A BAR
 
 module _ (d : Declared) (rules : List RuleOf) (n : ℕ) (rule : RuleOf) where
-  rule-entered : (k : ℕ) (fs : List (List ℕ)) → entering d rules n Rule (placed k fs) ≡ Ok rule → Behind Rule fs (described d rules) (described d (rules ++ rule ∷ []))
-  rule-entered k fs h =
+  rule_entered : (k : ℕ) (fs : List (List ℕ)) → entering d rules n Rule (placed k fs) ≡ Ok rule → Behind Rule fs (described d rules) (described d (rules ++ rule ∷ []))
+  rule_entered k fs h =
       let p = then_ok (in_line n (line_record d.names (placed k fs))) (entered d rules n) rule h in
       let x = p.0 in
       let w = rule_written d.names k fs x (in_line-ok n (line_record d.names (placed k fs)) x p.1) in
-      let e = entered-fits d rules n x rule p.2 in
+      let e = entered_fits d rules n x rule p.2 in
       let head = w.0 in
       let body = w.1 in
       let means = map (literal_named d.names) body in
@@ -180,12 +180,12 @@ module _ (d : Declared) (rules : List RuleOf) (n : ℕ) (rule : RuleOf) where
         adds = ap (λ r. described d (rules ++ r ∷ [])) (sym whole);
       }
 
-  bar-entered : (k : ℕ) (fs : List (List ℕ)) → entering d rules n Bar (placed k fs) ≡ Ok rule → Behind Bar fs (described d rules) (described d (rules ++ rule ∷ []))
-  bar-entered k fs h =
+  bar_entered : (k : ℕ) (fs : List (List ℕ)) → entering d rules n Bar (placed k fs) ≡ Ok rule → Behind Bar fs (described d rules) (described d (rules ++ rule ∷ []))
+  bar_entered k fs h =
       let p = then_ok (in_line n (bar_record d.names (placed k fs))) (entered d rules n) rule h in
       let x = p.0 in
       let w = bar_written d.names k fs x (in_line-ok n (bar_record d.names (placed k fs)) x p.1) in
-      let e = entered-fits d rules n x rule p.2 in
+      let e = entered_fits d rules n x rule p.2 in
       let body = w.0 in
       let long : length (literals_of x.body) ≡ length body = ap length w.4 ∙ length-map body (literal_named d.names) in
       let eight = e.2 in
@@ -203,8 +203,8 @@ module _ (d : Declared) (rules : List RuleOf) (n : ℕ) (rule : RuleOf) where
       → Behind l fs (described d rules) (described d (rules ++ rule ∷ []))
   line-entered Atom k fs e h = absurd (omega arith)
   line-entered Row k fs e h = absurd (omega arith)
-  line-entered Rule k fs e h = rule-entered k fs h
-  line-entered Bar k fs e h = bar-entered k fs h
+  line-entered Rule k fs e h = rule_entered k fs h
+  line-entered Bar k fs e h = bar_entered k fs h
 
 -- THE LETTER OF A LINE
 
@@ -369,7 +369,7 @@ accepted_is_rendered text d h =
     let s = then_ok (ruled dd [] ds.line ds.rest) make d r.2 in
     let one = declared-written none_declared Atom 0 (lines_of text) ds q.1 fitted_none in
     let two = ruled-written dd [] ds.line ds.rest s.0 s.1 in
-    let laid_so = laid-fits dd.names dd.levels dd.rows dd.outs one.fit r.1 in
+    let laid_so = laid_fits dd.names dd.levels dd.rows dd.outs one.fit r.1 in
     let rs = one.by ++ two.by in
     let before = described none_declared [] in
     let V : Described → Type 0 = λ x. (l : Letter) → ValidAfter x l two.by in

@@ -45,9 +45,9 @@ pass_literals levels h i (l ∷ ls) e =
     (ltb-true l.atom (length levels) (test_passes 9 i (ltb l.atom (length levels)) a.0), test_fails 10 i (above_head levels h l.atom) b.0, pass_literals levels h (suc i) ls c.0)
 
 module _ (d : Declared) (rules : List Rule) (n : ℕ) (l : LineRecord) where
-  pub fit-entered : 0 < length d.levels → length rules < 512 → head_below (length d.levels) l.head ≡ true → length (literals_of l.body) ≤ 8
+  pub fit_entered : 0 < length d.levels → length rules < 512 → head_below (length d.levels) l.head ≡ true → length (literals_of l.body) ≤ 8
       → LiteralsFit d.levels l.head (literals_of l.body) → entered d rules n l ≡ Ok (line l.head (literals_of l.body))
-  fit-entered some room head short fit =
+  fit_entered some room head short fit =
       let body = literals_of l.body in
       let one : not (ltb 0 (length d.levels)) ≡ false = ap not (lt-ltb 0 (length d.levels) some) in
       let six : leb 512 (length rules) ≡ false = lt-leb 512 (length rules) room in
@@ -61,9 +61,9 @@ module _ (d : Declared) (rules : List Rule) (n : ℕ) (l : LineRecord) where
       ∙ ap (λ t. or_else (fault_if 8 t) (or_else (literal_fault d.levels l.head 0 body) None)) eight
       ∙ ap (λ o. or_else o None) last)
 
-  pub entered-fits : (rule : Rule) → entered d rules n l ≡ Ok rule
+  pub entered_fits : (rule : Rule) → entered d rules n l ≡ Ok rule
       → (line l.head (literals_of l.body) ≡ rule) × (length rules < 512) × (length (literals_of l.body) ≤ 8) × LiteralsFit d.levels l.head (literals_of l.body)
-  entered-fits rule e =
+  entered_fits rule e =
       let body = literals_of l.body in
       let state = anew (pair_table d.rows) d.levels rules in
       let o = fault state (enter l.head body) in

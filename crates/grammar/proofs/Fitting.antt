@@ -139,8 +139,8 @@ outputs_in n (r ∷ rows) i (suc k) l = outputs_in n rows i.3 k (omega arith)
 -- LAYING
 
 module _ (names : List (List ℕ)) (levels : List ℕ) (rows : List PairRow) (outs : List ℕ) (fitted : Fitted names levels rows) where
-  pub fit-laid : 0 < length levels → RowsBelow levels rows → laid_with rows levels outs ≡ Ok tt
-  fit-laid some below =
+  pub fit_laid : 0 < length levels → RowsBelow levels rows → laid_with rows levels outs ≡ Ok tt
+  fit_laid some below =
       let bank = pair_table rows in
       let a : eqb (length levels) 0 ≡ false = ne_eqb (length levels) 0 (λ e. omega arith) in
       let few = fitted.few in
@@ -155,8 +155,8 @@ module _ (names : List (List ℕ)) (levels : List ℕ) (rows : List PairRow) (ou
       ∙ ap (λ t. or_else (fault_found 4 t) (or_else (fault_found 5 (lowest (reads_too_high levels bank) (length rows))) None)) four
       ∙ ap (λ t. or_else (fault_found 5 t) None) five)
 
-  pub laid-fits : laid_with rows levels outs ≡ Ok tt → (0 < length levels) × RowsBelow levels rows
-  laid-fits e =
+  pub laid_fits : laid_with rows levels outs ≡ Ok tt → (0 < length levels) × RowsBelow levels rows
+  laid_fits e =
       let bank = pair_table rows in
       let none = placed-ok (fault (blank bank) (lay levels)) (lay_place (length levels) outs) e in
       let w = passes (blank bank) (lay levels) none in
@@ -194,14 +194,14 @@ pub fitted_none : Fitted [] [] []
 fitted_none = record { paired = refl; few = omega arith; low = λ a. omega arith; inside = tt }
 
 module _ (names : List (List ℕ)) (levels : List ℕ) (rows : List PairRow) (fitted : Fitted names levels rows) where
-  pub fitted-atom : (name : List ℕ) (k : ℕ) → k ≤ 15 → length names < 256 → Fitted (names ++ name ∷ []) (levels ++ k ∷ []) rows
-  fitted-atom name k l room =
+  pub fitted_atom : (name : List ℕ) (k : ℕ) → k ≤ 15 → length names < 256 → Fitted (names ++ name ∷ []) (levels ++ k ∷ []) rows
+  fitted_atom name k l room =
       let n = length_push names name in
       let m = length_push levels k in
       let same = fitted.paired in
       record { paired = omega arith; few = omega arith; low = level_push levels k l fitted.low; inside = rows_more (length levels) (length (levels ++ k ∷ [])) rows (omega arith) fitted.inside }
 
-  pub fitted-row : (r : PairRow) → r.one < length names → r.other < length names → r.to < length names → Fitted names levels (rows ++ r ∷ [])
-  fitted-row r a b c =
+  pub fitted_row : (r : PairRow) → r.one < length names → r.other < length names → r.to < length names → Fitted names levels (rows ++ r ∷ [])
+  fitted_row r a b c =
       let same = fitted.paired in
       record { paired = same; few = fitted.few; low = fitted.low; inside = rows_push (length levels) rows r fitted.inside (omega arith) (omega arith) (omega arith) }

@@ -23,8 +23,8 @@ use Rattle.grammar.specs.Texts.{Described, described, on_sheet}
 use Rattle.grammar.specs.Format.{Named, Record, atom, row, line, bar, digits, literal_text, letter_text, letter, fields, line_text, rendered, place, literal_named, with_record, meant_after, meant, Known, AllKnown, Allowed, ValidAfter, RowsBelow, RenderedIsAccepted}
 use Rattle.grammar.proofs.Wording.{level_read, letter_read, name_free, literal_free, digits_free}
 use Rattle.grammar.proofs.Splitting.{free, AllFree, fields-commas, commas_free, lines_front, ended-unlines}
-use Rattle.grammar.proofs.Fitting.{fitted_none, fitted-atom, fitted-row, fit-laid}
-use Rattle.grammar.proofs.Entering.{LiteralsFit, fit-entered, below_fits}
+use Rattle.grammar.proofs.Fitting.{fitted_none, fitted_atom, fitted_row, fit_laid}
+use Rattle.grammar.proofs.Entering.{LiteralsFit, fit_entered, below_fits}
 use Rattle.grammar.proofs.Meanings.{known_read, known_below, literals_read, known_fit}
 use Rattle.grammar.proofs.Accepting.{from_start, Fits}
 
@@ -135,7 +135,7 @@ atom_adds d name k j h fit = record {
   more = with_atom d (record { name = name; level = k });
   reads = ap (λ r. then r (λ a. Ok (with_atom d a))) (atom_read d.names j name k h.0 h.1 h.2 h.3);
   adds = refl;
-  fit = fitted-atom d.names d.levels d.rows fit name k h.2 h.3;
+  fit = fitted_atom d.names d.levels d.rows fit name k h.2 h.3;
 }
 
 row_adds : (d : Declared) (f g i : List ℕ) (j : ℕ) → Allowed (described d []) (row f g i) → Fits d → Adds d (row f g i) j
@@ -146,7 +146,7 @@ row_adds d f g i j h fit =
       more = with_row d x;
       reads = ap (λ r. then r (room_for d)) (row_read names j f g i h.0 h.1 h.2) ∙ ap (λ t. cond t (Err (at_byte TableFull 0)) (Ok (with_row d x))) (lt-leb 64 (length d.rows) h.3);
       adds = refl;
-      fit = fitted-row names d.levels d.rows fit x.row (known_below names f h.0) (known_below names g h.1) (known_below names i h.2);
+      fit = fitted_row names d.levels d.rows fit x.row (known_below names f h.0) (known_below names g h.1) (known_below names i h.2);
     }
 
 -- A LINE OR A BAR
@@ -158,21 +158,21 @@ pub record Enters (d : Declared) (rules : List RuleOf) (n : ℕ) (r : Record) (j
 
 module _ (d : Declared) (rules : List RuleOf) (n : ℕ) (fit : Fits d) (some : 0 < length d.levels) where
   -- entering what was read
-  line-enters : (read : Result LineRecord Refusal) (head : Head) (body : List Named) → LineRead d.names read head body → length rules < 512 → length body ≤ 8
+  line_enters : (read : Result LineRecord Refusal) (head : Head) (body : List Named) → LineRead d.names read head body → length rules < 512 → length body ≤ 8
       → head_below (length d.levels) head ≡ true → LiteralsFit d.levels head (map (literal_named d.names) body)
       → then (in_line n read) (entered d rules n) ≡ Ok (record { head = head; body = map (literal_named d.names) body })
-  line-enters read head body x room short in-range lits =
+  line_enters read head body x room short in-range lits =
       let said = x.said in
       let long : length (literals_of said.body) ≡ length body = ap length x.bodied ∙ length-map body (literal_named d.names) in
       let H : Head → Type 0 = λ h. head_below (length d.levels) h ≡ true in
       let F : Head → Type 0 = λ h. LiteralsFit d.levels h (map (literal_named d.names) body) in
       let G : List Literal → Type 0 = λ ls. LiteralsFit d.levels said.head ls in
-      let e = fit-entered d rules n said some room (subst H (sym x.headed) in-range) (omega arith) (subst G (sym x.bodied) (subst F (sym x.headed) lits)) in
+      let e = fit_entered d rules n said some room (subst H (sym x.headed) in-range) (omega arith) (subst G (sym x.bodied) (subst F (sym x.headed) lits)) in
       ap (λ r. then (in_line n r) (entered d rules n)) x.reads ∙ e ∙ ap (λ h. Ok (record { head = h; body = literals_of said.body })) x.headed
       ∙ ap (λ ls. Ok (record { head = head; body = ls })) x.bodied
 
-  rule-enters : (head : List ℕ) (body : List Named) (j : ℕ) → Allowed (described d rules) (line head body) → Enters d rules n (line head body) j
-  rule-enters head body j h =
+  rule_enters : (head : List ℕ) (body : List Named) (j : ℕ) → Allowed (described d rules) (line head body) → Enters d rules n (line head body) j
+  rule_enters head body j h =
       let names = d.names in
       let below = known_below names head h.0 in
       let same = fit.paired in
@@ -180,24 +180,24 @@ module _ (d : Declared) (rules : List RuleOf) (n : ℕ) (fit : Fits d) (some : 0
       let means = map (literal_named names) body in
       record {
         rule = record { head = heads.Atom (place names head); body = means };
-        reads = line-enters (line_record names (placed j (head ∷ map literal_text body))) (heads.Atom (place names head)) body (rule_read names j head body h.0 h.1) h.2 h.3 (lt-ltb (place names head) (length d.levels) (omega arith)) (below_fits d.levels (place names head) means lits h.4);
+        reads = line_enters (line_record names (placed j (head ∷ map literal_text body))) (heads.Atom (place names head)) body (rule_read names j head body h.0 h.1) h.2 h.3 (lt-ltb (place names head) (length d.levels) (omega arith)) (below_fits d.levels (place names head) means lits h.4);
         adds = refl;
       }
 
-  bar-enters : (body : List Named) (j : ℕ) → Allowed (described d rules) (bar body) → Enters d rules n (bar body) j
-  bar-enters body j h =
+  bar_enters : (body : List Named) (j : ℕ) → Allowed (described d rules) (bar body) → Enters d rules n (bar body) j
+  bar_enters body j h =
       let names = d.names in
       record {
         rule = record { head = heads.Bar; body = map (literal_named names) body };
-        reads = line-enters (bar_record names (placed j (map literal_text body))) heads.Bar body (bar_read names j body h.0) h.1 h.2 refl (known_fit names d.levels body fit.paired h.0);
+        reads = line_enters (bar_record names (placed j (map literal_text body))) heads.Bar body (bar_read names j body h.0) h.1 h.2 refl (known_fit names d.levels body fit.paired h.0);
         adds = refl;
       }
 
   enters : (r : Record) (j : ℕ) → 2 ≤ rank_of (letter r) → Allowed (described d rules) r → Enters d rules n r j
   enters (atom name k) j l h = absurd (omega arith)
   enters (row f g i) j l h = absurd (omega arith)
-  enters (line head body) j l h = rule-enters head body j h
-  enters (bar body) j l h = bar-enters body j h
+  enters (line head body) j l h = rule_enters head body j h
+  enters (bar body) j l h = bar_enters body j h
 
 -- DECLARATIONS
 
@@ -217,17 +217,17 @@ module _ (d : Declared) (last : Letter) (n : ℕ) (r : Record) (rs : List Record
       cond (declares a) (then (in_line (n + 1) (declaration a d (tail fs))) (λ more. declarations more a (n + 1) (map line_text rs)))
       (Ok (record { declared = d; line = n; rest = line_text r ∷ map line_text rs }))
 
-  opened-so : declarations d last n (line_text r ∷ map line_text rs) ≡ on (placed 0 (letter_text (letter r) ∷ fields r)) (letter r)
+  opened_so : declarations d last n (line_text r ∷ map line_text rs) ≡ on (placed 0 (letter_text (letter r) ∷ fields r)) (letter r)
   unfolding on
-  opened-so =
+  opened_so =
       ap (λ fs. then (in_line (n + 1) (opening last fs)) (on fs)) (fields_back (described d []) r allowed)
       ∙ ap (λ o. then (in_line (n + 1) o) (on (placed 0 (letter_text (letter r) ∷ fields r)))) (opening_read last (letter r) (fields r) rank)
 
-  declared-on : declares (letter r) ≡ true → (a : Adds d r (behind (letter r))) → ReadsDeclared a.more (letter r) (n + 1) rs → ReadsDeclared d last n (r ∷ rs)
+  declared_on : declares (letter r) ≡ true → (a : Adds d r (behind (letter r))) → ReadsDeclared a.more (letter r) (n + 1) rs → ReadsDeclared d last n (r ∷ rs)
   unfolding on
-  declared-on t a ih = record {
+  declared_on t a ih = record {
     to = ih.to;
-    reads = opened-so
+    reads = opened_so
         ∙ ap (λ b. cond b (then (in_line (n + 1) (declaration (letter r) d (placed (behind (letter r)) (fields r)))) (λ more. declarations more (letter r) (n + 1) (map line_text rs))) (Ok (record { declared = d; line = n; rest = line_text r ∷ map line_text rs }))) t
         ∙ ap (λ x. then (in_line (n + 1) x) (λ more. declarations more (letter r) (n + 1) (map line_text rs))) a.reads
         ∙ ih.reads;
@@ -238,11 +238,11 @@ module _ (d : Declared) (last : Letter) (n : ℕ) (r : Record) (rs : List Record
     fit = ih.fit;
   }
 
-  declared-up-to : declares (letter r) ≡ false → rank_of (letter r) ≡ 2 → ValidAfter (with_record (described d []) r) (letter r) rs → Fits d → ReadsDeclared d last n (r ∷ rs)
+  declared_up_to : declares (letter r) ≡ false → rank_of (letter r) ≡ 2 → ValidAfter (with_record (described d []) r) (letter r) rs → Fits d → ReadsDeclared d last n (r ∷ rs)
   unfolding on
-  declared-up-to t two v fit = record {
+  declared_up_to t two v fit = record {
     to = record { declared = d; line = n; rest = line_text r ∷ map line_text rs };
-    reads = opened-so
+    reads = opened_so
         ∙ ap (λ b. cond b (then (in_line (n + 1) (declaration (letter r) d (placed (behind (letter r)) (fields r)))) (λ more. declarations more (letter r) (n + 1) (map line_text rs))) (Ok (record { declared = d; line = n; rest = line_text r ∷ map line_text rs }))) t;
     rest = r ∷ rs;
     left = refl;
@@ -256,13 +256,13 @@ declared_read d last n [] v fit = record { to = record { declared = d; line = n;
 declared_read d last n (atom name k ∷ rs) v fit =
     let a = atom_adds d name k 2 v.1 fit in
     let V : Described → Type 0 = λ x. ValidAfter x Atom rs in
-    declared-on d last n (atom name k) rs v.0 v.1 refl a (declared_read a.more Atom (n + 1) rs (subst V (sym a.adds) v.2) a.fit)
+    declared_on d last n (atom name k) rs v.0 v.1 refl a (declared_read a.more Atom (n + 1) rs (subst V (sym a.adds) v.2) a.fit)
 declared_read d last n (row f g i ∷ rs) v fit =
     let a = row_adds d f g i 2 v.1 fit in
     let V : Described → Type 0 = λ x. ValidAfter x Row rs in
-    declared-on d last n (row f g i) rs v.0 v.1 refl a (declared_read a.more Row (n + 1) rs (subst V (sym a.adds) v.2) a.fit)
-declared_read d last n (line head body ∷ rs) v fit = declared-up-to d last n (line head body) rs v.0 v.1 refl refl v.2 fit
-declared_read d last n (bar body ∷ rs) v fit = declared-up-to d last n (bar body) rs v.0 v.1 refl refl v.2 fit
+    declared_on d last n (row f g i) rs v.0 v.1 refl a (declared_read a.more Row (n + 1) rs (subst V (sym a.adds) v.2) a.fit)
+declared_read d last n (line head body ∷ rs) v fit = declared_up_to d last n (line head body) rs v.0 v.1 refl refl v.2 fit
+declared_read d last n (bar body ∷ rs) v fit = declared_up_to d last n (bar body) rs v.0 v.1 refl refl v.2 fit
 
 -- LINES AND BARS
 
@@ -317,7 +317,7 @@ rendered_is_accepted rs valid short =
     let below : RowsBelow d.levels d.rows = subst (RowsBelow d.levels) rows (subst R levels valid.1.1) in
     let two = ruled_read d [] p.line Rule one.rest (omega arith) one.valid one.fit some in
     let make : List RuleOf → Result Described Located = λ rules. Ok (described d rules) in
-    let lays : laid d ≡ Ok tt = fit-laid d.names d.levels d.rows d.outs one.fit some below in
+    let lays : laid d ≡ Ok tt = fit_laid d.names d.levels d.rows d.outs one.fit some below in
     let rules : ruled d [] p.line p.rest ≡ Ok two.all = ap (ruled d [] p.line) one.left ∙ two.reads in
     ap (λ t. cond t (then (declarations none_declared Atom 0 (lines_of text)) on_sheet) (Err (record { number = 27; line = 0; byte = 0 }))) w
     ∙ ap (λ ls. then (declarations none_declared Atom 0 ls) on_sheet) (lines_back (described none_declared []) Atom rs valid.0)

@@ -17,8 +17,8 @@ module _ {B : Type 0} (f : Row → B) (d : B) (rows : List Pair) (k : ℕ) where
       let h = get_or-map row_of rows k row (row_of row) l in
       sym (g ∙ ap f (h ∙ ap row_of e))
 
-  pub past-rows : RowAt rows k None → d ≡ slice_index_or (map f (map row_of rows)) k d
-  past-rows l =
+  pub past_rows : RowAt rows k None → d ≡ slice_index_or (map f (map row_of rows)) k d
+  past_rows l =
       let m : length (map f (map row_of rows)) ≤ k = omega (arith, length-map rows row_of, length-map (map row_of rows) f) in
       sym (get_or_past (map f (map row_of rows)) k d m)
 

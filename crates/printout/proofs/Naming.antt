@@ -10,27 +10,27 @@ module _ (names : List (Bor (List ℕ))) (plan : List ℕ) (k : ℕ) where
   names_more d h l = ap₂ (λ ns bs. present_names (texts ns) bs) (drop_more names k d h) (drop_more plan k 0 l)
 
   -- one turn of a loop that puts the names one by one
-  pub put-more : (before after whole : List ℕ) (d : Bor (List ℕ)) → k < length names → k < length plan →
+  pub put_more : (before after whole : List ℕ) (d : Bor (List ℕ)) → k < length names → k < length plan →
       after ≡ before ++ present_name (get_or names k d).now (get_or plan k 0) → before ++ present_names (texts (drop k names)) (drop k plan) ≡ whole →
       after ++ present_names (texts (drop (k + 1) names)) (drop (k + 1) plan) ≡ whole
-  put-more before after whole d h l put held =
+  put_more before after whole d h l put held =
       ap (λ xs. xs ++ rest) put ∙ append_assoc before (present_name (get_or names k d).now (get_or plan k 0)) rest ∙ ap (λ xs. before ++ xs) (sym (names_more d h l)) ∙ held
     where
       rest : List ℕ
       rest = present_names (texts (drop (k + 1) names)) (drop (k + 1) plan)
 
-  pub names-all : min (length names) (length plan) ≤ k → present_names (texts (drop k names)) (drop k plan) ≡ []
-  names-all h =
+  pub names_all : min (length names) (length plan) ≤ k → present_names (texts (drop k names)) (drop k plan) ≡ []
+  names_all h =
       elim (cases_lt k (length names)) [
-        | inl l ↦ ap (present_names (texts (drop k names))) (drop_all k plan (omega arith)) ∙ no-plan (texts (drop k names))
+        | inl l ↦ ap (present_names (texts (drop k names))) (drop_all k plan (omega arith)) ∙ no_plan (texts (drop k names))
         | inr l ↦ ap (λ ns. present_names (texts ns) (drop k plan)) (drop_all k names l)
       ]
     where
-      no-plan : (ns : List (List ℕ)) → present_names ns [] ≡ []
-      no-plan [] = refl
-      no-plan (n ∷ ns) = refl
+      no_plan : (ns : List (List ℕ)) → present_names ns [] ≡ []
+      no_plan [] = refl
+      no_plan (n ∷ ns) = refl
 
   -- and its end
   pub put_all : (before after whole : List ℕ) → min (length names) (length plan) ≤ k →
       after ≡ before ++ 10 ∷ [] → before ++ present_names (texts (drop k names)) (drop k plan) ≡ whole → after ≡ whole ++ 10 ∷ []
-  put_all before after whole h put held = put ∙ ap (λ xs. xs ++ 10 ∷ []) (sym (ap (λ xs. before ++ xs) (names-all h) ∙ append-nil before) ∙ held)
+  put_all before after whole h put held = put ∙ ap (λ xs. xs ++ 10 ∷ []) (sym (ap (λ xs. before ++ xs) (names_all h) ∙ append-nil before) ∙ held)

@@ -23,38 +23,38 @@ atom_miscounted names (f ∷ g ∷ []) h = absurd (h refl)
 atom_miscounted names (f ∷ g ∷ i ∷ fs) h = refl
 
 module _ (names : List (List ℕ)) (fs : List Field) (name level : Field) (e : fs ≡ name ∷ level ∷ []) where
-  by-fields : atom_record names fs ≡ then (atom_fields names name level) (room names)
-  by-fields = ap (atom_record names) e
+  by_fields : atom_record names fs ≡ then (atom_fields names name level) (room names)
+  by_fields = ap (atom_record names) e
 
   -- what it comes to for the level and for the names
   both : (r : Result AtomRecord Refusal) (after : List (List ℕ)) → atom_record names fs ≡ r → after ≡ with_name names r
       → (level_said r ≡ level_said (atom_record names fs)) × (after ≡ with_name names (atom_record names fs))
   both r after h a = (ap level_said (sym h), a ∙ ap (with_name names) (sym h))
 
-  pub atom-used : (x : Refusal) → Err x ≡ unused names name
+  pub atom_used : (x : Refusal) → Err x ≡ unused names name
       → (Err x ≡ level_said (atom_record names fs)) × (names ≡ with_name names (atom_record names fs))
-  atom-used x u = both (Err x) names (by-fields ∙ ap (λ r. then (then r (λ _. then (leveled level) (named name))) (room names)) (sym u)) refl
+  atom_used x u = both (Err x) names (by_fields ∙ ap (λ r. then (then r (λ _. then (leveled level) (named name))) (room names)) (sym u)) refl
 
   module _ (u : Ok tt ≡ unused names name) where
     by_level : atom_record names fs ≡ then (then (leveled level) (named name)) (room names)
-    by_level = by-fields ∙ ap (λ r. then (then r (λ _. then (leveled level) (named name))) (room names)) (sym u)
+    by_level = by_fields ∙ ap (λ r. then (then r (λ _. then (leveled level) (named name))) (room names)) (sym u)
 
-    pub atom-unleveled : (x : Refusal) → Err x ≡ leveled level
+    pub atom_unleveled : (x : Refusal) → Err x ≡ leveled level
         → (Err x ≡ level_said (atom_record names fs)) × (names ≡ with_name names (atom_record names fs))
-    atom-unleveled x l = both (Err x) names (by_level ∙ ap (λ r. then (then r (named name)) (room names)) (sym l)) refl
+    atom_unleveled x l = both (Err x) names (by_level ∙ ap (λ r. then (then r (named name)) (room names)) (sym l)) refl
 
     module _ (k : ℕ) (l : Ok k ≡ leveled level) where
-      by-room : (b : Bool) → b ≡ ltb (length names) 256 → atom_record names fs ≡ cond b (named name k) (Err (at_byte LevelCount 0))
-      by-room b t =
+      by_room : (b : Bool) → b ≡ ltb (length names) 256 → atom_record names fs ≡ cond b (named name k) (Err (at_byte LevelCount 0))
+      by_room b t =
           by_level ∙ ap (λ r. then (then r (named name)) (room names)) (sym l) ∙ ap (λ b. cond b (named name k) (Err (at_byte LevelCount 0))) (sym t)
 
-      pub atom-accepted : (after : List (List ℕ)) → true ≡ ltb (length names) 256 → after ≡ names ++ name.bytes ∷ []
+      pub atom_accepted : (after : List (List ℕ)) → true ≡ ltb (length names) 256 → after ≡ names ++ name.bytes ∷ []
           → (Ok k ≡ level_said (atom_record names fs)) × (after ≡ with_name names (atom_record names fs))
-      atom-accepted after t a = both (named name k) after (by-room true t) a
+      atom_accepted after t a = both (named name k) after (by_room true t) a
 
-      pub atom-too-many : (after : List (List ℕ)) → false ≡ ltb (length names) 256 → after ≡ names
+      pub atom_too_many : (after : List (List ℕ)) → false ≡ ltb (length names) 256 → after ≡ names
           → (Err (at_byte LevelCount 0) ≡ level_said (atom_record names fs)) × (after ≡ with_name names (atom_record names fs))
-      atom-too-many after t a = both (Err (at_byte LevelCount 0)) after (by-room false t) a
+      atom_too_many after t a = both (Err (at_byte LevelCount 0)) after (by_room false t) a
 
 -- ROWS
 
@@ -79,18 +79,18 @@ module _ (names : List (List ℕ)) (fs : List Field) (first second out : Field) 
   row_first x h = by_first (Err x) h
 
   module _ (a : ℕ) (f : Ok a ≡ known names first) where
-    by-second : (r : Result ℕ Refusal) → r ≡ known names second → then r (λ b. then (known names out) (third a b)) ≡ row_record names fs
-    by-second r h = ap (λ x. then x (λ b. then (known names out) (third a b))) h ∙ by_first (Ok a) f
+    by_second : (r : Result ℕ Refusal) → r ≡ known names second → then r (λ b. then (known names out) (third a b)) ≡ row_record names fs
+    by_second r h = ap (λ x. then x (λ b. then (known names out) (third a b))) h ∙ by_first (Ok a) f
 
-    pub row-second : (x : Refusal) → Err x ≡ known names second → Err x ≡ row_record names fs
-    row-second x h = by-second (Err x) h
+    pub row_second : (x : Refusal) → Err x ≡ known names second → Err x ≡ row_record names fs
+    row_second x h = by_second (Err x) h
 
     module _ (b : ℕ) (s : Ok b ≡ known names second) where
       by_out : (r : Result ℕ Refusal) → r ≡ known names out → then r (third a b) ≡ row_record names fs
-      by_out r h = ap (λ x. then x (third a b)) h ∙ by-second (Ok b) s
+      by_out r h = ap (λ x. then x (third a b)) h ∙ by_second (Ok b) s
 
-      pub row-third : (x : Refusal) → Err x ≡ known names out → Err x ≡ row_record names fs
-      row-third x h = by_out (Err x) h
+      pub row_third : (x : Refusal) → Err x ≡ known names out → Err x ≡ row_record names fs
+      row_third x h = by_out (Err x) h
 
       pub row-accepted : (c : ℕ) → Ok c ≡ known names out → third a b c ≡ row_record names fs
       row-accepted c h = by_out (Ok c) h
@@ -110,17 +110,17 @@ pub rule_miscounted : (names : List (List ℕ)) (fs : List Field) → fs ≡ [] 
 rule_miscounted names fs e = sym (ap (λ x. nine_of (line_record names x)) e)
 
 module _ (names : List (List ℕ)) (fs rest : List Field) (head : Field) (e : fs ≡ head ∷ rest) where
-  by-head : (r : Result ℕ Refusal) → r ≡ known names head
+  by_head : (r : Result ℕ Refusal) → r ≡ known names head
       → nine_of (then r (λ h. then (literals names rest) (λ body. Ok (record { head = heads.Atom h; body = body })))) ≡ nine_of (line_record names fs)
-  by-head r h =
+  by_head r h =
       ap (λ x. nine_of (then x (λ h. then (literals names rest) (λ body. Ok (record { head = heads.Atom h; body = body }))))) h ∙ sym (ap (λ x. nine_of (line_record names x)) e)
 
-  pub rule-headless : (x : Refusal) → Err x ≡ known names head → Err x ≡ nine_of (line_record names fs)
-  rule-headless x h = by-head (Err x) h
+  pub rule_headless : (x : Refusal) → Err x ≡ known names head → Err x ≡ nine_of (line_record names fs)
+  rule_headless x h = by_head (Err x) h
 
-  pub rule-by : (a : ℕ) (r : Result (List Placed) Refusal) → Ok a ≡ known names head → r ≡ up_to_nine (literals names rest)
+  pub rule_by : (a : ℕ) (r : Result (List Placed) Refusal) → Ok a ≡ known names head → r ≡ up_to_nine (literals names rest)
       → then r (λ body. Ok (record { head = heads.Atom a; body = body })) ≡ nine_of (line_record names fs)
-  rule-by a r h b = ap (λ x. then x (λ body. Ok (record { head = heads.Atom a; body = body }))) b ∙ go (literals names rest) ∙ by-head (Ok a) h
+  rule_by a r h b = ap (λ x. then x (λ body. Ok (record { head = heads.Atom a; body = body }))) b ∙ go (literals names rest) ∙ by_head (Ok a) h
     where
       go : (x : Result (List Placed) Refusal)
           → then (up_to_nine x) (λ body. Ok (record { head = heads.Atom a; body = body })) ≡ nine_of (then x (λ body. Ok (record { head = heads.Atom a; body = body })))

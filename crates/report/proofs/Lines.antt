@@ -15,50 +15,50 @@ module _ (f : List ℕ → List ℕ) (end : List ℕ) (tells plans : List (List 
   abbrev pub all_lines : List (List ℕ)
   all_lines = cond (ltb (length plans) 1_000_000) whole cut_off
 
-  all-lines-whole : length plans < 1_000_000 → all_lines ≡ whole
-  all-lines-whole few = rw lt-ltb
+  all_lines_whole : length plans < 1_000_000 → all_lines ≡ whole
+  all_lines_whole few = rw lt-ltb
 
-  all-lines-cut-off : 1_000_000 ≤ length plans → all_lines ≡ cut_off
-  all-lines-cut-off many = rw le-ltb
+  all_lines_cut_off : 1_000_000 ≤ length plans → all_lines ≡ cut_off
+  all_lines_cut_off many = rw le-ltb
 
-  plan-in-whole : (k : ℕ) → k < length plans → (k < length whole) × (get_or whole k [] ≡ f (get_or plans k []))
-  plan-in-whole k l =
+  plan_in_whole : (k : ℕ) → k < length plans → (k < length whole) × (get_or whole k [] ≡ f (get_or plans k []))
+  plan_in_whole k l =
       let n = length-map plans f in
       let m = length-append (map f plans) (end ∷ tells) in
       (omega arith, get_or_append_left (map f plans) (end ∷ tells) [] k (omega arith) ∙ get_or-map f plans k [] [] l)
 
-  plan-in-cut-off : (k : ℕ) → k < length plans → k < 1_000_000 → (k < length cut_off) × (get_or cut_off k [] ≡ f (get_or plans k []))
-  plan-in-cut-off k l few =
+  plan_in_cut_off : (k : ℕ) → k < length plans → k < 1_000_000 → (k < length cut_off) × (get_or cut_off k [] ≡ f (get_or plans k []))
+  plan_in_cut_off k l few =
       let n = length-map (take 1_000_000 plans) f in
       let m = length-take 1_000_000 plans in
       (omega arith, get_or-map f (take 1_000_000 plans) k [] [] (omega arith) ∙ ap f (get_or-take 1_000_000 plans k [] few))
 
   -- the line of a plan
-  pub plan-at : (k : ℕ) → k < length plans → k < 1_000_000 → (k < length all_lines) × (get_or all_lines k [] ≡ f (get_or plans k []))
-  plan-at k l few =
+  pub plan_at : (k : ℕ) → k < length plans → k < 1_000_000 → (k < length all_lines) × (get_or all_lines k [] ≡ f (get_or plans k []))
+  plan_at k l few =
       elim (ltb (length plans) 1_000_000) as (λ b. (k < length (cond b whole cut_off)) × (get_or (cond b whole cut_off) k [] ≡ f (get_or plans k [])))
-      [ true ↦ plan-in-whole k l | false ↦ plan-in-cut-off k l few ]
+      [ true ↦ plan_in_whole k l | false ↦ plan_in_cut_off k l few ]
 
   module _ (few : length plans < 1_000_000) where
     -- how many lines there are
     pub length_whole : length all_lines ≡ length plans + 1 + length tells
-    length_whole = rw (all-lines-whole few) (omega (arith, length-map plans f, length-append (map f plans) (end ∷ tells)))
+    length_whole = rw (all_lines_whole few) (omega (arith, length-map plans f, length-append (map f plans) (end ∷ tells)))
 
     -- the end
-    pub end-at : (length plans < length all_lines) × (get_or all_lines (length plans) [] ≡ end)
-    end-at =
+    pub end_at : (length plans < length all_lines) × (get_or all_lines (length plans) [] ≡ end)
+    end_at =
         let n = length_whole in (
           omega arith,
-          ap (λ ls. get_or ls (length plans) []) (all-lines-whole few) ∙ get_or-append_right (map f plans) (end ∷ tells) (length plans) (length plans) [] (length-map plans f) (omega arith)
+          ap (λ ls. get_or ls (length plans) []) (all_lines_whole few) ∙ get_or-append_right (map f plans) (end ∷ tells) (length plans) (length plans) [] (length-map plans f) (omega arith)
               ∙ ap (λ i. get_or (end ∷ tells) i []) (let e : length plans - length plans ≡ 0 = omega arith in e),
         )
 
     -- the line of an atom
-    pub tell-at : (a : ℕ) → a < length tells → (length plans + 1 + a < length all_lines) × (get_or all_lines (length plans + 1 + a) [] ≡ get_or tells a [])
-    tell-at a l =
+    pub tell_at : (a : ℕ) → a < length tells → (length plans + 1 + a < length all_lines) × (get_or all_lines (length plans + 1 + a) [] ≡ get_or tells a [])
+    tell_at a l =
         let n = length_whole in (
           omega arith,
-          ap (λ ls. get_or ls (length plans + 1 + a) []) (all-lines-whole few)
+          ap (λ ls. get_or ls (length plans + 1 + a) []) (all_lines_whole few)
               ∙ get_or-append_right (map f plans) (end ∷ tells) (length plans) (length plans + 1 + a) [] (length-map plans f) (omega arith)
               ∙ ap (λ i. get_or (end ∷ tells) i []) (let e : length plans + 1 + a - length plans ≡ 1 + a = omega arith in e)
               ∙ get_or-append_right (end ∷ []) tells 1 (1 + a) [] refl (omega arith)
@@ -66,5 +66,5 @@ module _ (f : List ℕ → List ℕ) (end : List ℕ) (tells plans : List (List 
         )
 
   -- with a million plans or more
-  pub length-cut-off : 1_000_000 ≤ length plans → length all_lines ≡ 1_000_000
-  length-cut-off many = rw (all-lines-cut-off many) (omega (arith, length-map (take 1_000_000 plans) f, length-take 1_000_000 plans))
+  pub length_cut_off : 1_000_000 ≤ length plans → length all_lines ≡ 1_000_000
+  length_cut_off many = rw (all_lines_cut_off many) (omega (arith, length-map (take 1_000_000 plans) f, length-take 1_000_000 plans))

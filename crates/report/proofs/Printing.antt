@@ -27,8 +27,8 @@ use Rattle.report.specs.declared.lister.Stage.{Stage}
 use Rattle.report.specs.declared.lister.Stage.TheVariants.{Plans, Tells}
 use Rattle.report.specs.Printouts.{printout, all_plans, told_line, tell_lines}
 use Rattle.report.specs.Progress.{PrintedSoFar, StandsAt}
-use Rattle.report.proofs.Lines.{plan-at, end-at, tell-at, length_whole, length-cut-off}
-use Rattle.report.proofs.Steps.{Ends, steps_on, comes-to-end, is-cut-off, when_ended, tells, not-refused}
+use Rattle.report.proofs.Lines.{plan_at, end_at, tell_at, length_whole, length_cut_off}
+use Rattle.report.proofs.Steps.{Ends, steps_on, comes_to_end, is_cut_off, when_ended, tells, not_refused}
 
 -- the same plans
 plans_are : (rows : List PairRow) (levels levels' : List ℕ) (rules rules' : List Rule) → levels ≡ levels' → rules ≡ rules' →
@@ -58,14 +58,14 @@ module _ (d : Described) (k : ℕ) (x : Lister) (at : PrintedSoFar d k x) where
   fits : length (vec_items x.plan) ≡ length s.levels
   fits = at.buffer ∙ ap length (sym at.levels_are)
 
-  in-force-are : plans (in_force (pair_table d.rows) s) ≡ all_plans d
-  in-force-are = plans_are d.rows s.levels d.levels s.rules d.rules at.levels_are at.rules_are
+  in_force_are : plans (in_force (pair_table d.rows) s) ≡ all_plans d
+  in_force_are = plans_are d.rows s.levels d.levels s.rules d.rules at.levels_are at.rules_are
 
   -- a lister whose sheet has the same levels, rules and bank
-  comes-to : (y : Lister) → y.names ≡ x.names → y.sheet.bank ≡ x.sheet.bank → length (vec_items y.plan) ≡ length (vec_items x.plan) →
+  comes_to : (y : Lister) → y.names ≡ x.names → y.sheet.bank ≡ x.sheet.bank → length (vec_items y.plan) ≡ length (vec_items x.plan) →
       (k' : ℕ) → (contents y.sheet).levels ≡ s.levels → (contents y.sheet).rules ≡ s.rules → Sound (pair_table d.rows) (contents y.sheet) →
       StandsAt y.stage (length d.levels) (contents y.sheet).listing (contents y.sheet).handed k' → PrintedSoFar d k' y
-  comes-to y names bank buffer k' levels rules sound stands = record {
+  comes_to y names bank buffer k' levels rules sound stands = record {
     names_are = ap declared names ∙ at.names_are;
     bank_is = ap rows_of bank ∙ at.bank_is;
     levels_are = levels ∙ at.levels_are;
@@ -78,49 +78,49 @@ module _ (d : Described) (k : ℕ) (x : Lister) (at : PrintedSoFar d k x) where
 
   -- once atoms are told, a next
   module _ (a : ℕ) (telling : x.stage ≡ Tells a) where
-    told-so-far : (is_ended s.listing ≡ true) × (s.handed + 1 + a ≡ k) × (a ≤ length d.levels)
-    told-so-far = subst (λ (g : Stage). StandsAt g (length d.levels) s.listing s.handed k) telling at.stands
+    told_so_far : (is_ended s.listing ≡ true) × (s.handed + 1 + a ≡ k) × (a ≤ length d.levels)
+    told_so_far = subst (λ (g : Stage). StandsAt g (length d.levels) s.listing s.handed k) telling at.stands
 
     all_handed : (s.handed ≡ length (all_plans d)) × (length (all_plans d) < 1_000_000)
     all_handed =
-        let h = when_ended s.listing s.handed (length (plans (in_force (pair_table d.rows) s))) told-so-far.0 at.sound.stands in
-        let n = ap length in-force-are in
+        let h = when_ended s.listing s.handed (length (plans (in_force (pair_table d.rows) s))) told_so_far.0 at.sound.stands in
+        let n = ap length in_force_are in
         (omega arith, omega arith)
 
     -- every atom is told
-    pub end-of-printout : length s.levels ≤ a → (k ≡ length (printout d)) × (length (all_plans d) < 1_000_000)
-    end-of-printout none =
+    pub end_of_printout : length s.levels ≤ a → (k ≡ length (printout d)) × (length (all_plans d) < 1_000_000)
+    end_of_printout none =
         let n = length_whole (plan_line d.names) (end_line (length (all_plans d))) (tell_lines d) (all_plans d) all_handed.1 in
         let m = length-map-range_with_len (atom_line d) 0 (length d.levels) in
-        (omega (arith, told-so-far, all_handed, ap length at.levels_are), all_handed.1)
+        (omega (arith, told_so_far, all_handed, ap length at.levels_are), all_handed.1)
 
     module _ (more : a < length s.levels) where
-      tally-here : (tally' : Tally) → TellsOf x a (told tally') → tally' ≡ tally (all_plans d) a
-      tally-here tally' called =
-          let h = tells (pair_table d.rows) s a (told tally') more told-so-far.0 (rw at.bank_is at called) at.sound in
+      tally_here : (tally' : Tally) → TellsOf x a (told tally') → tally' ≡ tally (all_plans d) a
+      tally_here tally' called =
+          let h = tells (pair_table d.rows) s a (told tally') more told_so_far.0 (rw at.bank_is at called) at.sound in
           let e : tally' ≡ tally (plans (in_force (pair_table d.rows) s)) a = cc in
-          e ∙ ap (λ ps. tally ps a) in-force-are
+          e ∙ ap (λ ps. tally ps a) in_force_are
 
-      pub never-refused : (f : Fault) → TellsOf x a (refused (flaw f)) → ⊥
-      never-refused f called = not-refused (pair_table d.rows) s a (refused (flaw f)) more told-so-far.0 (rw at.bank_is at called) (flaw f) refl
+      pub never_refused : (f : Fault) → TellsOf x a (refused (flaw f)) → ⊥
+      never_refused f called = not_refused (pair_table d.rows) s a (refused (flaw f)) more told_so_far.0 (rw at.bank_is at called) (flaw f) refl
 
       -- what is told of an atom
-      pub tell-here : (y : Lister) (line name : List ℕ) (tally' : Tally) → y.names ≡ x.names → y.sheet ≡ x.sheet → y.plan ≡ x.plan → y.stage ≡ Tells (a + 1) →
+      pub tell_here : (y : Lister) (line name : List ℕ) (tally' : Tally) → y.names ≡ x.names → y.sheet ≡ x.sheet → y.plan ≡ x.plan → y.stage ≡ Tells (a + 1) →
           name ≡ get_or (declared x.names) a [] → line ≡ told_line name tally' → TellsOf x a (told tally') →
           (k < length (printout d)) × (line ≡ get_or (printout d) k []) × PrintedSoFar d (k + 1) y
-      tell-here y line name tally' names sheet room stage named is called =
+      tell_here y line name tally' names sheet room stage named is called =
           let l = ap length at.levels_are in
           let n = length-map-range_with_len (atom_line d) 0 (length d.levels) in
-          let p = tell-at (plan_line d.names) (end_line (length (all_plans d))) (tell_lines d) (all_plans d) all_handed.1 a (omega arith) in
-          let here : length (all_plans d) + 1 + a ≡ k = omega (arith, told-so-far, all_handed) in
+          let p = tell_at (plan_line d.names) (end_line (length (all_plans d))) (tell_lines d) (all_plans d) all_handed.1 a (omega arith) in
+          let here : length (all_plans d) + 1 + a ≡ k = omega (arith, told_so_far, all_handed) in
           let said : get_or (tell_lines d) a [] ≡ atom_line d a = get_or-map-range_with_len (atom_line d) 0 (length d.levels) a a [] (omega arith) (omega arith) in
-          let e : line ≡ atom_line d a = is ∙ ap₂ told_line (named ∙ ap (λ ns. get_or ns a []) at.names_are) (tally-here tally' called) in (
+          let e : line ≡ atom_line d a = is ∙ ap₂ told_line (named ∙ ap (λ ns. get_or ns a []) at.names_are) (tally_here tally' called) in (
             subst (λ i. i < length (printout d)) here p.0,
             e ∙ sym said ∙ sym p.1 ∙ ap (λ i. get_or (printout d) i []) here,
-            comes-to y names (ap (λ z. z.bank) sheet) (ap (λ z. length (vec_items z)) room) (k + 1) (ap (λ z. (contents z).levels) sheet) (ap (λ z. (contents z).rules) sheet)
+            comes_to y names (ap (λ z. z.bank) sheet) (ap (λ z. length (vec_items z)) room) (k + 1) (ap (λ z. (contents z).levels) sheet) (ap (λ z. (contents z).rules) sheet)
                 (subst (λ z. Sound (pair_table d.rows) (contents z)) (sym sheet) at.sound)
                 (subst (λ (g : Stage). StandsAt g (length d.levels) (contents y.sheet).listing (contents y.sheet).handed (k + 1)) (sym stage)
-                (ap (λ z. is_ended (contents z).listing) sheet ∙ told-so-far.0, omega (arith, ap (λ z. (contents z).handed) sheet, told-so-far.1), omega arith)),
+                (ap (λ z. is_ended (contents z).listing) sheet ∙ told_so_far.0, omega (arith, ap (λ z. (contents z).handed) sheet, told_so_far.1), omega arith)),
           )
 
 -- while plans are printed
@@ -133,64 +133,64 @@ module _ (d : Described) (k : ℕ) (x : Lister) (at : PrintedSoFar d k x) (print
     abbrev stepped : Stage → Lister
     stepped stage = record { sheet = sheet; names = x.names; plan = with_items x.plan after; stage = stage }
 
-    plan-is : vec_items (with_items x.plan after) ≡ after
-    plan-is = with_items_is x.plan after (omega (arith, ap length lent, x.plan.ok.0))
+    plan_is : vec_items (with_items x.plan after) ≡ after
+    plan_is = with_items_is x.plan after (omega (arith, ap length lent, x.plan.ok.0))
 
     as_long : length (vec_items (with_items x.plan after)) ≡ length (vec_items x.plan)
-    as_long = ap length plan-is ∙ filled ∙ ap length lent
+    as_long = ap length plan_is ∙ filled ∙ ap length lent
 
     answered : {r : Answer} → Called (pair_table (rows_of x.sheet.bank)) (contents x.sheet) (contents sheet) (next (length before)) r →
         Called (pair_table d.rows) (contents x.sheet) (contents sheet) (next (length (vec_items x.plan))) r
     answered called = rw (lent, at.bank_is) at called
 
     -- a million were printed
-    pub cut-off-here : (f : Fault) → Stepped (pair_table (rows_of x.sheet.bank)) (contents x.sheet) (contents sheet) before after (Err f) →
+    pub cut_off_here : (f : Fault) → Stepped (pair_table (rows_of x.sheet.bank)) (contents x.sheet) (contents sheet) before after (Err f) →
         (f ≡ ListingFull) × (k ≡ length (printout d)) × (1_000_000 ≤ length (all_plans d))
-    cut-off-here f called =
-        let h = is-cut-off (pair_table d.rows) (contents x.sheet) (contents sheet) (length (vec_items x.plan)) (laid d k x at) (fits d k x at) at.sound f (answered called) in
-        let n = ap length (in-force-are d k x at) in
+    cut_off_here f called =
+        let h = is_cut_off (pair_table d.rows) (contents x.sheet) (contents sheet) (length (vec_items x.plan)) (laid d k x at) (fits d k x at) at.sound f (answered called) in
+        let n = ap length (in_force_are d k x at) in
         let many : 1_000_000 ≤ length (all_plans d) = omega arith in
-        let l = length-cut-off (plan_line d.names) (end_line (length (all_plans d))) (tell_lines d) (all_plans d) many in
+        let l = length_cut_off (plan_line d.names) (end_line (length (all_plans d))) (tell_lines d) (all_plans d) many in
         (h.0, omega (arith, so_far), many)
 
     module _ (step : Step) (taken : Stepped (pair_table (rows_of x.sheet.bank)) (contents x.sheet) (contents sheet) before after (Ok step)) where
-      sound-after : Sound (pair_table d.rows) (contents sheet)
-      sound-after = (answered taken).sound at.sound
+      sound_after : Sound (pair_table d.rows) (contents sheet)
+      sound_after = (answered taken).sound at.sound
 
       -- a plan
-      pub plan-here : (line : List ℕ) → step ≡ Plan → line ≡ plan_line (declared x.names) (vec_items (with_items x.plan after)) →
+      pub plan_here : (line : List ℕ) → step ≡ Plan → line ≡ plan_line (declared x.names) (vec_items (with_items x.plan after)) →
           (k < length (printout d)) × (line ≡ get_or (printout d) k []) × PrintedSoFar d (k + 1) (stepped x.stage)
-      plan-here line is_plan_step is =
+      plan_here line is_plan_step is =
           let h = steps_on (pair_table d.rows) (contents x.sheet) (contents sheet) (length (vec_items x.plan)) (laid d k x at) (fits d k x at) at.sound after (rw is_plan_step at (answered taken)) in
-          let e = in-force-are d k x at in
+          let e = in_force_are d k x at in
           let n = ap length e in
           let m = so_far in
           let left : k < length (all_plans d) = omega arith in
           let few : k < 1_000_000 = omega arith in
-          let p = plan-at (plan_line d.names) (end_line (length (all_plans d))) (tell_lines d) (all_plans d) k left few in
-          let set : vec_items (with_items x.plan after) ≡ get_or (all_plans d) k [] = plan-is ∙ h.is_next ∙ ap (λ ps. get_or ps (contents x.sheet).handed []) e ∙ ap (λ i. get_or (all_plans d) i []) m in (
+          let p = plan_at (plan_line d.names) (end_line (length (all_plans d))) (tell_lines d) (all_plans d) k left few in
+          let set : vec_items (with_items x.plan after) ≡ get_or (all_plans d) k [] = plan_is ∙ h.is_next ∙ ap (λ ps. get_or ps (contents x.sheet).handed []) e ∙ ap (λ i. get_or (all_plans d) i []) m in (
             p.0,
             is ∙ ap₂ plan_line at.names_are set ∙ sym p.1,
-            comes-to d k x at (stepped x.stage) refl same as_long (k + 1) h.levels h.rules sound-after
+            comes_to d k x at (stepped x.stage) refl same as_long (k + 1) h.levels h.rules sound_after
                 (subst (λ (g : Stage). StandsAt g (length d.levels) (contents sheet).listing (contents sheet).handed (k + 1)) (sym printing) (h.goes_on, omega arith)),
           )
 
       -- no more plans
       module _ (none : step ≡ NoMore) where
         ends : Ends (pair_table d.rows) (contents x.sheet) (contents sheet)
-        ends = comes-to-end (pair_table d.rows) (contents x.sheet) (contents sheet) (length (vec_items x.plan)) (laid d k x at) (fits d k x at) at.sound (rw none at (answered taken))
+        ends = comes_to_end (pair_table d.rows) (contents x.sheet) (contents sheet) (length (vec_items x.plan)) (laid d k x at) (fits d k x at) at.sound (rw none at (answered taken))
 
-        no-plan-left : PrintedSoFar d (k + 1) (stepped (Tells 0))
-        no-plan-left = comes-to d k x at (stepped (Tells 0)) refl same as_long (k + 1) ends.levels ends.rules sound-after (ends.ended, omega (arith, ends.handed, so_far), omega arith)
+        no_plan_left : PrintedSoFar d (k + 1) (stepped (Tells 0))
+        no_plan_left = comes_to d k x at (stepped (Tells 0)) refl same as_long (k + 1) ends.levels ends.rules sound_after (ends.ended, omega (arith, ends.handed, so_far), omega arith)
 
-        pub end-here : (line : List ℕ) (tally' : Tally) → line ≡ end_line tally'.all → TellsOf (stepped (Tells 0)) 0 (told tally') →
+        pub end_here : (line : List ℕ) (tally' : Tally) → line ≡ end_line tally'.all → TellsOf (stepped (Tells 0)) 0 (told tally') →
             (k < length (printout d)) × (line ≡ get_or (printout d) k []) × PrintedSoFar d (k + 1) (stepped (Tells 0))
-        end-here line tally' is telling =
-            let e = tally-here d (k + 1) (stepped (Tells 0)) no-plan-left 0 refl (laid d (k + 1) (stepped (Tells 0)) no-plan-left) tally' telling in
-            let h = all_handed d (k + 1) (stepped (Tells 0)) no-plan-left 0 refl in
+        end_here line tally' is telling =
+            let e = tally_here d (k + 1) (stepped (Tells 0)) no_plan_left 0 refl (laid d (k + 1) (stepped (Tells 0)) no_plan_left) tally' telling in
+            let h = all_handed d (k + 1) (stepped (Tells 0)) no_plan_left 0 refl in
             let here : length (all_plans d) ≡ k = omega (arith, h.0, ends.handed, so_far) in
-            let p = end-at (plan_line d.names) (end_line (length (all_plans d))) (tell_lines d) (all_plans d) h.1 in
-            (subst (λ i. i < length (printout d)) here p.0, is ∙ ap (λ (u : Tally). end_line u.all) e ∙ sym p.1 ∙ ap (λ i. get_or (printout d) i []) here, no-plan-left)
+            let p = end_at (plan_line d.names) (end_line (length (all_plans d))) (tell_lines d) (all_plans d) h.1 in
+            (subst (λ i. i < length (printout d)) here p.0, is ∙ ap (λ (u : Tally). end_line u.all) e ∙ sym p.1 ∙ ap (λ i. get_or (printout d) i []) here, no_plan_left)
 
-        pub end-never-refused : (f : Fault) → TellsOf (stepped (Tells 0)) 0 (refused (flaw f)) → ⊥
-        end-never-refused f telling = never-refused d (k + 1) (stepped (Tells 0)) no-plan-left 0 refl (laid d (k + 1) (stepped (Tells 0)) no-plan-left) f telling
+        pub end_never_refused : (f : Fault) → TellsOf (stepped (Tells 0)) 0 (refused (flaw f)) → ⊥
+        end_never_refused f telling = never_refused d (k + 1) (stepped (Tells 0)) no_plan_left 0 refl (laid d (k + 1) (stepped (Tells 0)) no_plan_left) f telling

@@ -110,22 +110,22 @@ module _ (bank : Meaning) (s t : Contents) (size : ℕ) (laid : 0 < length s.lev
   all = plans (in_force bank s)
 
   -- a step is refused only by a full listing
-  fault-is : fault st (next size) ≡ fault_if 13 (is_full s.listing)
-  fault-is =
+  fault_is : fault st (next size) ≡ fault_if 13 (is_full s.listing)
+  fault_is =
       let l : ltb 0 (length s.levels) ≡ true = lt-ltb 0 (length s.levels) laid in
       let b : eqb size (length s.levels) ≡ true = eq-eqb size (length s.levels) fits in
       rw (l, b) (first_alone (fault_if 13 (is_full s.listing)))
 
-  not-full-if : (b : Bool) → None ≡ fault_if 13 b → b ≡ false
-  not-full-if true e = absurd (no_none _ e)
-  not-full-if false e = refl
+  not_full_if : (b : Bool) → None ≡ fault_if 13 b → b ≡ false
+  not_full_if true e = absurd (no_none _ e)
+  not_full_if false e = refl
 
   module _ (r : Answer) (free : refusal r ≡ None) (called : Called bank s t (next size) r) where
     passes : None ≡ fault st (next size)
     passes = sym free ∙ called.refusal_is
 
     running : (s.handed ≤ length all) × (s.handed < 1_000_000)
-    running = not_full s.listing s.handed (length all) (not-full-if (is_full s.listing) (passes ∙ fault-is)) ok.stands
+    running = not_full s.listing s.handed (length all) (not_full_if (is_full s.listing) (passes ∙ fault_is)) ok.stands
 
     answer : r ≡ cond (more_plans st) (plan (get_or all s.handed [])) no_more
     answer = accepted (fault st (next size)) st (next size) r passes (called.answer_is ok)
@@ -136,12 +136,12 @@ module _ (bank : Meaning) (s t : Contents) (size : ℕ) (laid : 0 < length s.lev
   abbrev onward : State
   onward = listing_at st (cond (eqb (s.handed + 1) 1_000_000) Full Running) (s.handed + 1)
 
-  abbrev at-end : State
-  at-end = listing_at st Ended s.handed
+  abbrev at_end : State
+  at_end = listing_at st Ended s.handed
 
-  plan-then : (set : List ℕ) (b : Bool) → more_plans st ≡ b → plan set ≡ cond b (plan (get_or all s.handed [])) no_more → state_of bank t ≡ cond b onward at-end →
+  plan_then : (set : List ℕ) (b : Bool) → more_plans st ≡ b → plan set ≡ cond b (plan (get_or all s.handed [])) no_more → state_of bank t ≡ cond b onward at_end →
       s.handed < 1_000_000 → HandsOut bank s t set
-  plan-then set true m a g few = record {
+  plan_then set true m a g few = record {
     left = ltb-true s.handed (length all) m;
     few = few;
     is_next = cc;
@@ -150,11 +150,11 @@ module _ (bank : Meaning) (s t : Contents) (size : ℕ) (laid : 0 < length s.lev
     handed = ap (λ x. x.handed) g;
     goes_on = ap (λ x. is_ended x.listing) g ∙ full_or_running (eqb (s.handed + 1) 1_000_000);
   }
-  plan-then set false m a g few = absurd (let z : ◌≡◌ {A = ℕ} 0 1 = cc in omega arith)
+  plan_then set false m a g few = absurd (let z : ◌≡◌ {A = ℕ} 0 1 = cc in omega arith)
 
-  end-then : (b : Bool) → no_more ≡ cond b (plan (get_or all s.handed [])) no_more → state_of bank t ≡ cond b onward at-end → Ends bank s t
-  end-then true a g = absurd (let z : ◌≡◌ {A = ℕ} 0 1 = cc in omega arith)
-  end-then false a g = record {
+  end_then : (b : Bool) → no_more ≡ cond b (plan (get_or all s.handed [])) no_more → state_of bank t ≡ cond b onward at_end → Ends bank s t
+  end_then true a g = absurd (let z : ◌≡◌ {A = ℕ} 0 1 = cc in omega arith)
+  end_then false a g = record {
     levels = ap (λ x. x.levels) g;
     rules = ap (λ x. x.rules) g;
     handed = ap (λ x. x.handed) g;
@@ -162,10 +162,10 @@ module _ (bank : Meaning) (s t : Contents) (size : ℕ) (laid : 0 < length s.lev
   }
 
   pub steps_on : (set : List ℕ) → Called bank s t (next size) (plan set) → HandsOut bank s t set
-  steps_on set called = plan-then set (more_plans st) refl (answer (plan set) refl called) (goes (plan set) refl called) (running (plan set) refl called).1
+  steps_on set called = plan_then set (more_plans st) refl (answer (plan set) refl called) (goes (plan set) refl called) (running (plan set) refl called).1
 
-  pub comes-to-end : Called bank s t (next size) no_more → Ends bank s t
-  comes-to-end called = end-then (more_plans st) (answer no_more refl called) (goes no_more refl called)
+  pub comes_to_end : Called bank s t (next size) no_more → Ends bank s t
+  comes_to_end called = end_then (more_plans st) (answer no_more refl called) (goes no_more refl called)
 
   full-then : (f : Fault) (b : Bool) → is_full s.listing ≡ b → Some (flaw f) ≡ fault_if 13 b → (f ≡ ListingFull) × (s.handed ≡ 1_000_000) × (1_000_000 ≤ length all)
   full-then f true full e =
@@ -174,19 +174,19 @@ module _ (bank : Meaning) (s t : Contents) (size : ℕ) (laid : 0 < length s.lev
       (full-fault f n, h.0, h.1)
   full-then f false full e = absurd (no_none (flaw f) (sym e))
 
-  pub is-cut-off : (f : Fault) → Called bank s t (next size) (refused (flaw f)) → (f ≡ ListingFull) × (s.handed ≡ 1_000_000) × (1_000_000 ≤ length all)
-  is-cut-off f called = full-then f (is_full s.listing) refl (called.refusal_is ∙ fault-is)
+  pub is_cut_off : (f : Fault) → Called bank s t (next size) (refused (flaw f)) → (f ≡ ListingFull) × (s.handed ≡ 1_000_000) × (1_000_000 ≤ length all)
+  is_cut_off f called = full-then f (is_full s.listing) refl (called.refusal_is ∙ fault_is)
 
 -- once the listing has ended, each atom is told
 module _ (bank : Meaning) (s : Contents) (a : ℕ) (r : Answer) (laid : a < length s.levels) (ended : is_ended s.listing ≡ true) (called : Called bank s s (tell a) r) where
-  tell-passes : fault (state_of bank s) (tell a) ≡ None
-  tell-passes =
+  tell_passes : fault (state_of bank s) (tell a) ≡ None
+  tell_passes =
       let l : ltb 0 (length s.levels) ≡ true = lt-ltb 0 (length s.levels) (omega arith) in
       let b : ltb a (length s.levels) ≡ true = lt-ltb a (length s.levels) laid in
       rw (l, b, ended)
 
   pub tells : Sound bank s → r ≡ told (tally (plans (in_force bank s)) a)
-  tells ok = accepted (fault (state_of bank s) (tell a)) (state_of bank s) (tell a) r (sym tell-passes) (called.answer_is ok)
+  tells ok = accepted (fault (state_of bank s) (tell a)) (state_of bank s) (tell a) r (sym tell_passes) (called.answer_is ok)
 
-  pub not-refused : (f : Flaw) → r ≡ refused f → ⊥
-  not-refused f e = let n : Some f ≡ None = ap refusal (sym e) ∙ called.refusal_is ∙ tell-passes in no_none f (sym n)
+  pub not_refused : (f : Flaw) → r ≡ refused f → ⊥
+  not_refused f e = let n : Some f ≡ None = ap refusal (sym e) ∙ called.refusal_is ∙ tell_passes in no_none f (sym n)

@@ -9,7 +9,7 @@ use Rattle.semantics.specs.Rules.{rule_below, head_below}
 use Rattle.semantics.specs.Banks.{Lawful}
 use Rattle.semantics.specs.Plans.{WellFormed}
 use Rattle.semantics.specs.Sheets.{State, Fault, lay, enter, strike, or_else, lowest, first_of, fault_at, fault_found, above_head, literal_fault, checks, fault, atoms, program, line, moved}
-use Rattle.semantics.proofs.Booleans.{holds, and_from, all_both, all-taken}
+use Rattle.semantics.proofs.Booleans.{holds, and_from, all_both, all_taken}
 
 -- no fault: none by any check
 none_of : {A : Type 0} (x y : Option A) → or_else x y ≡ None → (x ≡ None) × (y ≡ None)
@@ -57,8 +57,8 @@ literals_below levels h i (l ∷ ls) e =
 
 -- the sheet stays well formed
 module _ (st : State) where
-  pub lay-forms : (levels : List ℕ) → Lawful st.bank → fault st (lay levels) ≡ None → WellFormed (program (moved st (lay levels)))
-  lay-forms levels lawful e =
+  pub lay_forms : (levels : List ℕ) → Lawful st.bank → fault st (lay levels) ≡ None → WellFormed (program (moved st (lay levels)))
+  lay_forms levels lawful e =
       let w = passes st (lay levels) e in
       record {
         rules_below = tt;
@@ -68,23 +68,23 @@ module _ (st : State) where
       }
 
   -- the atoms of a line that is entered are the sheet's
-  pub enter-below : (h : Head) (body : List Literal) → fault st (enter h body) ≡ None → T (rule_below (atoms st) (line h body))
-  enter-below h body e =
+  pub enter_below : (h : Head) (body : List Literal) → fault st (enter h body) ≡ None → T (rule_below (atoms st) (line h body))
+  enter_below h body e =
       let w = passes st (enter h body) e in
       and_from (head_below (atoms st) h) (all (λ l. ltb l.atom (atoms st)) body)
       (holds (head_below (atoms st) h) (test_passes 7 0 (head_below (atoms st) h) w.1.1.0))
       (literals_below st.levels h 0 body w.1.1.1.1.0)
 
-  pub enter-forms : (h : Head) (body : List Literal) → WellFormed (program st) → fault st (enter h body) ≡ None → WellFormed (program (moved st (enter h body)))
-  enter-forms h body ok e = record {
-    rules_below = all_both (rule_below (atoms st)) st.rules (line h body ∷ []) ok.rules_below (and_from (rule_below (atoms st) (line h body)) true (enter-below h body e) tt);
+  pub enter_forms : (h : Head) (body : List Literal) → WellFormed (program st) → fault st (enter h body) ≡ None → WellFormed (program (moved st (enter h body)))
+  enter_forms h body ok e = record {
+    rules_below = all_both (rule_below (atoms st)) st.rules (line h body ∷ []) ok.rules_below (and_from (rule_below (atoms st) (line h body)) true (enter_below h body e) tt);
     bank_below = ok.bank_below;
     bank_lawful = ok.bank_lawful;
   }
 
-  pub strike-forms : WellFormed (program st) → WellFormed (program (moved st strike))
-  strike-forms ok = record {
-    rules_below = all-taken (rule_below (atoms st)) _ st.rules ok.rules_below;
+  pub strike_forms : WellFormed (program st) → WellFormed (program (moved st strike))
+  strike_forms ok = record {
+    rules_below = all_taken (rule_below (atoms st)) _ st.rules ok.rules_below;
     bank_below = ok.bank_below;
     bank_lawful = ok.bank_lawful;
   }

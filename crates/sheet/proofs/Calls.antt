@@ -89,11 +89,11 @@ module _ (bank : Meaning) (s : Contents) (c : Call) where
 
 -- the checks
 module _ (st : State) (laid : 0 < atoms st) where
-  laid-test : ltb 0 (atoms st) ≡ true
-  laid-test = lt-ltb 0 (atoms st) laid
+  laid_test : ltb 0 (atoms st) ≡ true
+  laid_test = lt-ltb 0 (atoms st) laid
 
-  pub tell-passes : (a : ℕ) → a < atoms st → is_ended st.listing ≡ true → fault st (tell a) ≡ None
-  tell-passes a l e = let f : ltb a (atoms st) ≡ true = lt-ltb a (atoms st) l in rw (laid-test, f, e)
+  pub tell_passes : (a : ℕ) → a < atoms st → is_ended st.listing ≡ true → fault st (tell a) ≡ None
+  tell_passes a l e = let f : ltb a (atoms st) ≡ true = lt-ltb a (atoms st) l in rw (laid_test, f, e)
 
 -- a tally on an ended listing
 all_handed : (l : Listing) (handed all : ℕ) → is_ended l ≡ true → Stands l handed all → handed ≡ all

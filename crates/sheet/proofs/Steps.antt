@@ -19,23 +19,23 @@ use Rattle.sheet.proofs.Calls.{accept}
 
 -- a buffer that fits is looked for
 module _ (l : Listing) (p : Program) (cs cs' : List Literal) (set : List ℕ) (found : Bool) (size n : ℕ) (fits : size ≡ n) where
-  pub looked-if : GoesOn l p cs cs' set found → Looked (eqb size n) l p cs cs' set found
-  looked-if k = subst (λ b. Looked b l p cs cs' set found) (sym (eq-eqb size n fits)) k
+  pub looked_if : GoesOn l p cs cs' set found → Looked (eqb size n) l p cs cs' set found
+  looked_if k = subst (λ b. Looked b l p cs cs' set found) (sym (eq-eqb size n fits)) k
 
-  pub if-looked : Looked (eqb size n) l p cs cs' set found → GoesOn l p cs cs' set found
-  if-looked k = subst (λ b. Looked b l p cs cs' set found) (eq-eqb size n fits) k
+  pub if_looked : Looked (eqb size n) l p cs cs' set found → GoesOn l p cs cs' set found
+  if_looked k = subst (λ b. Looked b l p cs cs' set found) (eq-eqb size n fits) k
 
 -- the search goes on: it finds a plan only where one is left, and none only where none is
 module _ (p : Program) (handed : ℕ) (cs cs' : List Literal) (set : List ℕ) where
-  goes-from : (found : Bool) → WellFormed p → (l : Listing) → Stands l handed (length (plans p)) → Resumes l p handed cs → is_full l ≡ false → GoesOn l p cs cs' set found → Sought p handed cs' set found
-  goes-from found ok Fresh stands resumes going k = k handed ok (subst (λ n. LeadsTo p n (Some [])) (sym stands) (root_leads p))
-  goes-from found ok Running stands resumes going k = k handed ok resumes
-  goes-from found ok Ended stands resumes going k = record {
+  goes_from : (found : Bool) → WellFormed p → (l : Listing) → Stands l handed (length (plans p)) → Resumes l p handed cs → is_full l ≡ false → GoesOn l p cs cs' set found → Sought p handed cs' set found
+  goes_from found ok Fresh stands resumes going k = k handed ok (subst (λ n. LeadsTo p n (Some [])) (sym stands) (root_leads p))
+  goes_from found ok Running stands resumes going k = k handed ok resumes
+  goes_from found ok Ended stands resumes going k = record {
     more = k.0 ∙ sym (le-ltb handed (length (plans p)) (omega arith));
     is_next = λ e. absurd (false≢true (sym k.0 ∙ e));
     leads_on = λ e. absurd (false≢true (sym k.0 ∙ e));
   }
-  goes-from found ok Full stands resumes going k = absurd (false≢true (sym going))
+  goes_from found ok Full stands resumes going k = absurd (false≢true (sym going))
 
 under_a_million : (l : Listing) (handed all : ℕ) → is_full l ≡ false → Stands l handed all → (handed ≤ all) × (handed < 1_000_000)
 under_a_million Fresh handed all e k = (omega arith, omega arith)
@@ -72,7 +72,7 @@ module _ (bank : Meaning) (s t : Contents) (cs : List Literal) (set : List ℕ) 
 
   module _ (found : Bool) (going : is_full s.listing ≡ false) (k : GoesOn s.listing (in_force bank s) s.opened cs set found) (ok : Sound bank s) where
     finds : Sought (in_force bank s) s.handed cs set found
-    finds = goes-from (in_force bank s) s.handed s.opened cs set found (ok.formed laid) s.listing ok.stands ok.resumes going k
+    finds = goes_from (in_force bank s) s.handed s.opened cs set found (ok.formed laid) s.listing ok.stands ok.resumes going k
 
     few : (s.handed ≤ length all) × (s.handed < 1_000_000)
     few = under_a_million s.listing s.handed (length all) going ok.stands
@@ -99,8 +99,8 @@ module _ (bank : Meaning) (s t : Contents) (cs : List Literal) (set : List ℕ) 
           same-contents t.levels s.levels t.rules s.rules t.listing (after_plan (s.handed + 1)) t.handed (s.handed + 1) t.tallies t.opened cs
           out.levels out.rules (out.listing ∙ ap after_plan h) h out.opened
 
-      onward-sound : Sound bank onward
-      onward-sound =
+      onward_sound : Sound bank onward
+      onward_sound =
           let found = finds true going k ok in
           record {
             formed = ok.formed;
@@ -110,15 +110,15 @@ module _ (bank : Meaning) (s t : Contents) (cs : List Literal) (set : List ℕ) 
             resumes = leads-back (eqb (s.handed + 1) 1_000_000) (in_force bank s) (s.handed + 1) cs (found.leads_on refl);
           }
 
-      moves-on : state_of bank onward ≡ cond (more_plans (state_of bank s)) (state_of bank onward) (listing_at (state_of bank s) Ended s.handed)
-      moves-on = rw more
+      moves_on : state_of bank onward ≡ cond (more_plans (state_of bank s)) (state_of bank onward) (listing_at (state_of bank s) Ended s.handed)
+      moves_on = rw more
 
-      answers-plan : plan set ≡ cond (more_plans (state_of bank s)) (plan (get_or all s.handed [])) no_more
-      answers-plan = rw more (ap plan ((finds true going k ok).is_next refl))
+      answers_plan : plan set ≡ cond (more_plans (state_of bank s)) (plan (get_or all s.handed [])) no_more
+      answers_plan = rw more (ap plan ((finds true going k ok).is_next refl))
 
     pub hands_out : Called bank s t (next size) (plan set)
-    hands_out = accept bank s (next size) t (plan set) refl (next_passes (state_of bank s) size laid fits going) answers-plan
-        (λ ok. ap (state_of bank) (goes_on ok) ∙ moves-on ok) (λ ok. subst (Sound bank) (sym (goes_on ok)) (onward-sound ok))
+    hands_out = accept bank s (next size) t (plan set) refl (next_passes (state_of bank s) size laid fits going) answers_plan
+        (λ ok. ap (state_of bank) (goes_on ok) ∙ moves_on ok) (λ ok. subst (Sound bank) (sym (goes_on ok)) (onward_sound ok))
 
   -- none is found
   module _ (k : GoesOn s.listing (in_force bank s) s.opened cs set false) (going : is_full s.listing ≡ false) (end : t ≡ ended_at s cs) where
@@ -126,8 +126,8 @@ module _ (bank : Meaning) (s t : Contents) (cs : List Literal) (set : List ℕ) 
       none : more_plans (state_of bank s) ≡ false
       none = sym (finds false going k ok).more
 
-      ended-sound : Sound bank (ended_at s cs)
-      ended-sound =
+      ended_sound : Sound bank (ended_at s cs)
+      ended_sound =
           let h = few false going k ok in
           let l = ltb-false s.handed (length all) none in
           record { formed = ok.formed; stands = (omega arith, h.1); tallied = ok.tallied; resumes = tt }
@@ -135,9 +135,9 @@ module _ (bank : Meaning) (s t : Contents) (cs : List Literal) (set : List ℕ) 
       ends : state_of bank (ended_at s cs) ≡ cond (more_plans (state_of bank s)) (listing_at (state_of bank s) (after_plan (s.handed + 1)) (s.handed + 1)) (state_of bank (ended_at s cs))
       ends = rw none
 
-      answers-none : no_more ≡ cond (more_plans (state_of bank s)) (plan (get_or all s.handed [])) no_more
-      answers-none = rw none
+      answers_none : no_more ≡ cond (more_plans (state_of bank s)) (plan (get_or all s.handed [])) no_more
+      answers_none = rw none
 
-    pub comes-to-end : Called bank s t (next size) no_more
-    comes-to-end = accept bank s (next size) t no_more refl (next_passes (state_of bank s) size laid fits going) answers-none
-        (λ ok. ap (state_of bank) end ∙ ends ok) (λ ok. subst (Sound bank) (sym end) (ended-sound ok))
+    pub comes_to_end : Called bank s t (next size) no_more
+    comes_to_end = accept bank s (next size) t no_more refl (next_passes (state_of bank s) size laid fits going) answers_none
+        (λ ok. ap (state_of bank) end ∙ ends ok) (λ ok. subst (Sound bank) (sym end) (ended_sound ok))

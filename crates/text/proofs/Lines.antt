@@ -97,18 +97,18 @@ after-opening last n (l ∷ ls) o e h = go (opening last (fields_from 0 l)) refl
 
 module _ (d : Declared) (answer : Result (List Line) Located) (reader : Reader) (sheet : Sheet PairTable) (going : Going d answer reader sheet) where
   -- the answer by the next record
-  next-answer : answer ≡ then (opened reader.last reader.line (to_come reader)) (turn d going.rules)
-  next-answer = sym going.same ∙ by_turns d going.rules reader.last reader.line (to_come reader) going.ranked
+  next_answer : answer ≡ then (opened reader.last reader.line (to_come reader)) (turn d going.rules)
+  next_answer = sym going.same ∙ by_turns d going.rules reader.last reader.line (to_come reader) going.ranked
 
   pub none_left : Ok None ≡ opened reader.last reader.line (to_come reader) → EntersAll d answer sheet (Ok tt)
-  none_left e = (going.rules, next-answer ∙ sym (ap (λ o. then o (turn d going.rules)) e), going.holds)
+  none_left e = (going.rules, next_answer ∙ sym (ap (λ o. then o (turn d going.rules)) e), going.holds)
 
   pub not_opened : (x : Refused) → Err (located x) ≡ opened reader.last reader.line (to_come reader) → RefusedBy answer x
-  not_opened x e = inl (next-answer ∙ sym (ap (λ o. then o (turn d going.rules)) e))
+  not_opened x e = inl (next_answer ∙ sym (ap (λ o. then o (turn d going.rules)) e))
 
   module _ (o : Opening) (e : Ok (Some o) ≡ opened reader.last reader.line (to_come reader)) where
-    opened-answer : answer ≡ turn d going.rules (Some o)
-    opened-answer = next-answer ∙ sym (ap (λ x. then x (turn d going.rules)) e)
+    opened_answer : answer ≡ turn d going.rules (Some o)
+    opened_answer = next_answer ∙ sym (ap (λ x. then x (turn d going.rules)) e)
 
     pub goes_on : (next : Reader) (after : Sheet PairTable) → next.last ≡ o.letter → next.line ≡ o.line → to_come next ≡ o.rest
         → Enters d going.rules o.line o.letter o.fields after (Ok tt) → Going d answer next after
@@ -117,7 +117,7 @@ module _ (d : Declared) (answer : Result (List Line) Located) (reader : Reader) 
         let on : turn d going.rules (Some o) ≡ ruled d more o.line o.rest = ap (λ r. then r (λ rule. ruled d (going.rules ++ rule ∷ []) o.line o.rest)) entered.1 in
         record {
           rules = more;
-          same = ap (λ k. ruled d more k (to_come next)) line ∙ ap (ruled d more o.line) rest ∙ sym (opened-answer ∙ on);
+          same = ap (λ k. ruled d more k (to_come next)) line ∙ ap (ruled d more o.line) rest ∙ sym (opened_answer ∙ on);
           ranked = ap rank_of letter ∙ after-opening reader.last reader.line (to_come reader) o going.ranked e;
           holds = entered.2;
         }
@@ -128,7 +128,7 @@ module _ (d : Declared) (answer : Result (List Line) Located) (reader : Reader) 
         ⊎_elim
         (λ found.
         ⊎_elim
-        (λ at. inl (opened-answer ∙ ap (λ r. then r (λ rule. ruled d (going.rules ++ rule ∷ []) o.line o.rest)) found ∙ ap Err (sym at)))
+        (λ at. inl (opened_answer ∙ ap (λ r. then r (λ rule. ruled d (going.rules ++ rule ∷ []) o.line o.rest)) found ∙ ap Err (sym at)))
         (λ none. inr none)
         placed)
         (λ none. inr (memory none))

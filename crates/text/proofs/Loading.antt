@@ -31,33 +31,33 @@ declared_text text d last n ls p e l k s h =
 
 module _ (text : List ℕ) (p : Declarations) (read : read_lines (lines_of text) ≡ on_sheet p) where
   -- refused while it was laid
-  pub not-laid : (levels outs : List ℕ) (e : Refused) → levels ≡ p.declared.levels → outs ≡ p.declared.outs
+  pub not_laid : (levels outs : List ℕ) (e : Refused) → levels ≡ p.declared.levels → outs ≡ p.declared.outs
       → RefusedBy (laid_with p.declared.rows levels outs) e → RefusedBy (read_lines (lines_of text)) e
-  not-laid levels outs e l o h =
+  not_laid levels outs e l o h =
       let d = p.declared in
       let same : laid_with d.rows levels outs ≡ laid d = ap (λ ls. laid_with d.rows ls outs) l ∙ ap (laid_with d.rows d.levels) o in
       let go = λ (u : Unit {0}). then (ruled d [] p.line p.rest) (λ rules. Ok (described d rules)) in
       refused_same (on_sheet p) (read_lines (lines_of text)) e (sym read) (refused_then (laid d) go e (refused_same (laid_with d.rows levels outs) (laid d) e same h))
 
   module _ (levels outs : List ℕ) (l : levels ≡ p.declared.levels) (o : outs ≡ p.declared.outs) (ok : laid_with p.declared.rows levels outs ≡ Ok tt) where
-    entering-text : read_lines (lines_of text) ≡ then (ruled p.declared [] p.line p.rest) (λ rules. Ok (described p.declared rules))
-    entering-text =
+    entering_text : read_lines (lines_of text) ≡ then (ruled p.declared [] p.line p.rest) (λ rules. Ok (described p.declared rules))
+    entering_text =
         let d = p.declared in
         let same : laid d ≡ Ok tt = sym (ap (λ ls. laid_with d.rows ls outs) l ∙ ap (laid_with d.rows d.levels) o) ∙ ok in
         read ∙ ap (λ r. then r (λ _. then (ruled d [] p.line p.rest) (λ rules. Ok (described d rules)))) same
 
     -- refused while the lines were entered
-    pub not-ruled : (e : Refused) → RefusedBy (ruled p.declared [] p.line p.rest) e → RefusedBy (read_lines (lines_of text)) e
-    not-ruled e h =
+    pub not_ruled : (e : Refused) → RefusedBy (ruled p.declared [] p.line p.rest) e → RefusedBy (read_lines (lines_of text)) e
+    not_ruled e h =
         let d = p.declared in
-        refused_same (then (ruled d [] p.line p.rest) (λ rules. Ok (described d rules))) (read_lines (lines_of text)) e (sym entering-text)
+        refused_same (then (ruled d [] p.line p.rest) (λ rules. Ok (described d rules))) (read_lines (lines_of text)) e (sym entering_text)
         (refused_then (ruled d [] p.line p.rest) (λ rules. Ok (described d rules)) e h)
 
     pub loads : (sheet : Sheet PairTable) (names : Names) → declared names ≡ p.declared.names → EntersAll p.declared (ruled p.declared [] p.line p.rest) sheet (Ok tt)
         → Answers (read_lines (lines_of text)) (Ok (record { sheet = sheet; names = names }))
     loads sheet names same entered =
         let d = p.declared in
-        (described d entered.0, entering-text ∙ ap (λ r. then r (λ rules. Ok (described d rules))) entered.1, record { names_are = same; sheet_holds = entered.2 })
+        (described d entered.0, entering_text ∙ ap (λ r. then r (λ rules. Ok (described d rules))) entered.1, record { names_are = same; sheet_holds = entered.2 })
 
 -- THE LAW
 

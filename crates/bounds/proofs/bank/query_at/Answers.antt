@@ -1,6 +1,6 @@
 use Rattle.std.proofs.Common.{◌≡◌, ℕ, Bool, length, sym, ap, ◌∙◌, arith}
 use Rattle.std.proofs.lemmas.List.{set_past}
-use Rattle.bounds.proofs.Outputs.{found, found_passed, found-failed}
+use Rattle.bounds.proofs.Outputs.{found, found_passed, found_failed}
 use Rattle.bounds.proofs.bank.query_at.Goals as goal
 use Rattle.bounds.proofs.bank.query_at.Goals.{then-given+then-atom-outputs, then-given+else-atom-outputs, else-given}
 
@@ -16,7 +16,7 @@ loop-position-preserved g c =
       | then-given+else-atom-outputs w ↦
           let e = found_passed m passes n k (sym w.if-given.ensures) in
           let s = set_past c.loop-position.outputs w.atom-atom.result 1 w.if-atom-outputs.false in cc
-      | else-given w ↦ let e = found-failed m passes n k (sym w.if-given.ensures) in cc
+      | else-given w ↦ let e = found_failed m passes n k (sym w.if-given.ensures) in cc
     ]
 
 pub returns : goal.returns

@@ -3,7 +3,7 @@ use Rattle.semantics.specs.Sets.{tabled}
 use Rattle.semantics.specs.Banks.{some_output}
 use Rattle.bounds.specs.Rounds.{pair}
 use Rattle.bounds.specs.Unknown.{unknown_atoms, reads_none}
-use Rattle.bounds.proofs.Knowing.{surely-found, possibly-found}
+use Rattle.bounds.proofs.Knowing.{surely_found, possibly_found}
 use Rattle.bounds.proofs.bank.query_between.Goals as goal
 
 pub returns : goal.returns
@@ -19,6 +19,6 @@ returns g c =
     let atoms : take (count - 0) c.list_unknown-count.new.unknown ≡ unknown_atoms q n = ap (λ k. take k c.list_unknown-count.new.unknown) whole ∙ c.list_unknown-count.ensures.atoms in
     let size : length c.args.sure_given.now ≡ n = c.requires.givens.0 in
     record {
-      sure = c.query_positions.ensures.sure ∙ ap (λ xs. sure-by xs (length c.args.sure_given.now)) atoms ∙ ap (sure-by (unknown_atoms q n)) size ∙ surely-found m q n;
-      possible = c.query_positions.ensures.possible ∙ ap (λ xs. possible-by xs (length c.args.sure_given.now)) atoms ∙ ap (possible-by (unknown_atoms q n)) size ∙ possibly-found m q n;
+      sure = c.query_positions.ensures.sure ∙ ap (λ xs. sure-by xs (length c.args.sure_given.now)) atoms ∙ ap (sure-by (unknown_atoms q n)) size ∙ surely_found m q n;
+      possible = c.query_positions.ensures.possible ∙ ap (λ xs. possible-by xs (length c.args.sure_given.now)) atoms ∙ ap (possible-by (unknown_atoms q n)) size ∙ possibly_found m q n;
     }

@@ -1,6 +1,6 @@
 use Rattle.std.proofs.Common.{◌≡◌, ℕ, ◌≤◌, Bool, not, ◌&&◌, ◌||◌, length, ap, ◌∙◌, arith}
 use Rattle.bounds.specs.Unknown.{reads_none}
-use Rattle.bounds.proofs.Outputs.{found, found_passed, found-failed, found-past}
+use Rattle.bounds.proofs.Outputs.{found, found_passed, found_failed, found_past}
 use Rattle.bounds.proofs.Standings.{sure_standing, open_standing, never_standing}
 use Rattle.bounds.proofs.bank.query_positions.Goals as goal
 use Rattle.bounds.proofs.bank.query_positions.Goals.{then-atom-sure_given+in-Sure, then-atom-sure_given+in-Open, then-atom-sure_given+in-Never, else-atom-sure_given}
@@ -23,18 +23,18 @@ loop-position-preserved g c =
           (cc, cc)
       | then-atom-sure_given+in-Open w ↦
           let s = open_standing (settles k) (is-given k) w.in-Open.ensures in
-          let e = found-failed m surely n k s.0 in
+          let e = found_failed m surely n k s.0 in
           let f = found_passed m possibly n k s.1 in
           (cc, cc)
       | then-atom-sure_given+in-Never w ↦
           let s = never_standing (settles k) (is-given k) w.in-Never.ensures in
-          let e = found-failed m surely n k s.0 in
-          let f = found-failed m possibly n k s.1 in
+          let e = found_failed m surely n k s.0 in
+          let f = found_failed m possibly n k s.1 in
           (cc, cc)
       | else-atom-sure_given w ↦
           let past : n ≤ m.atom k = omega arith in
-          let e = found-past m surely n k past in
-          let f = found-past m possibly n k past in
+          let e = found_past m surely n k past in
+          let f = found_past m possibly n k past in
           (cc, cc)
     ]
 

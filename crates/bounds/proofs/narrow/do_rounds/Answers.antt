@@ -3,8 +3,8 @@ use Rattle.semantics.specs.Plans.{over}
 use Rattle.semantics.specs.Alternating.{marks_in}
 use Rattle.derivation.specs.Rulesets.{rules_in, atoms_in}
 use Rattle.bounds.specs.Rounds.{pair}
-use Rattle.bounds.proofs.Ending.{Underway, begun, ends-in-contradiction, ends-unchanged, goes_on, never-more}
-use Rattle.bounds.proofs.Rounding.{possibly-canonical, rounded-narrowed}
+use Rattle.bounds.proofs.Ending.{Underway, begun, ends_in_contradiction, ends_unchanged, goes_on, never_more}
+use Rattle.bounds.proofs.Rounding.{possibly_canonical, rounded-narrowed}
 use Rattle.bounds.proofs.narrow.do_rounds.Goals as goal
 
 pub loop-turn-init : goal.loop-turn-init
@@ -25,7 +25,7 @@ round-requires g c =
     let given-size : length c.query_between.new.sure_given ≡ n = omega (arith, c.requires.givens.0) in
     record {
       sizes = (c.requires.sizes.0, (size, same_size));
-      givens = (given-size, possibly-canonical m rs n k q size c.query_between.new.possible_given c.query_between.ensures.possible);
+      givens = (given-size, possibly_canonical m rs n k q size c.query_between.new.possible_given c.query_between.ensures.possible);
     }
 
 pub returns-in-Contradiction : goal.returns-in-Contradiction
@@ -41,8 +41,8 @@ returns-in-Contradiction g c ok =
     let size : length c.loop-turn.sure ≡ n = omega (arith, c.requires.sizes.1.0) in
     let step = rounded-narrowed m rs n (length c.loop-turn.sure) q size ms given r c.query_between.ensures.sure c.query_between.ensures.possible c.round.ensures.narrowed in
     elim c.in-Contradiction.is [
-      | inl e ↦ ends-in-contradiction p ms c.loop-turn._turn q r (c.loop-turn.invariant ok) step (sym e ∙ c.round.ensures.end)
-      | inr e ↦ ends-unchanged p ms c.loop-turn._turn q r (c.loop-turn.invariant ok) step (sym e ∙ c.round.ensures.end)
+      | inl e ↦ ends_in_contradiction p ms c.loop-turn._turn q r (c.loop-turn.invariant ok) step (sym e ∙ c.round.ensures.end)
+      | inr e ↦ ends_unchanged p ms c.loop-turn._turn q r (c.loop-turn.invariant ok) step (sym e ∙ c.round.ensures.end)
     ]
 
 pub loop-turn-preserved : goal.loop-turn-preserved
@@ -63,4 +63,4 @@ pub returns : goal.returns
 returns g c ok =
     let p = over (g.M.Module.meaning c.args.bank.now) (atoms_in c.args.rules.now) (rules_in c.args.rules.now) in
     let ms = marks_in c.args.marks.now in
-    absurd (never-more p ms c.loop-turn._turn (pair c.loop-turn.sure c.loop-turn.possible) (c.loop-turn.invariant ok) (omega (arith, c.requires.sizes.0)))
+    absurd (never_more p ms c.loop-turn._turn (pair c.loop-turn.sure c.loop-turn.possible) (c.loop-turn.invariant ok) (omega (arith, c.requires.sizes.0)))

@@ -2,7 +2,7 @@ use Rattle.std.proofs.Common.{sym, ap, ◌∙◌, subst}
 use Rattle.semantics.specs.Sets.{Canonical, has, same, tabled}
 use Rattle.semantics.specs.Rules.{least}
 use Rattle.semantics.specs.Banks.{gives}
-use Rattle.semantics.proofs.Bytes.{tabled-canonical}
+use Rattle.semantics.proofs.Bytes.{tabled_canonical}
 use Rattle.derivation.specs.Rulesets.{rules_in, atoms_in}
 use Rattle.bounds.proofs.Leasts.{least-tabled}
 use Rattle.bounds.proofs.plan_test.is_stable.Goals as goal
@@ -12,7 +12,7 @@ derive-requires g c =
     let given = gives (g.M.Module.meaning c.args.bank.now) c.args.set.now in
     let n = atoms_in c.args.rules.now in
     let filled = c.query_at.ensures ∙ ap (tabled given 0) c.requires.1 in
-    (c.requires.0, subst (Canonical n) (sym filled) (tabled-canonical given n))
+    (c.requires.0, subst (Canonical n) (sym filled) (tabled_canonical given n))
 
 pub returns : goal.returns
 returns g c =

@@ -2,7 +2,7 @@ use Rattle.std.proofs.Common.{ℕ, Bool, not, ◌&&◌, ◌||◌, sym, ap, ◌�
 use Rattle.semantics.specs.Sets.{has, tabled, Canonical}
 use Rattle.semantics.specs.Rules.{least}
 use Rattle.semantics.specs.Alternating.{marks_in, is_present, is_absent}
-use Rattle.semantics.proofs.Bytes.{tabled-canonical}
+use Rattle.semantics.proofs.Bytes.{tabled_canonical}
 use Rattle.derivation.specs.Rulesets.{rules_in, atoms_in}
 use Rattle.bounds.proofs.Leasts.{least-tabled}
 use Rattle.bounds.proofs.Rounding.{pair_same}
@@ -13,7 +13,7 @@ derive-requires c =
     let n = atoms_in c.args.rules.now in
     let bare : ℕ → Bool = λ a. has c.args.sure_given.now a || is_present (marks_in c.args.marks.now a) in
     let held = c.hold.ensures ∙ ap (tabled bare 0) c.requires.sizes.0 in
-    (c.requires.sizes.1.1, subst (Canonical n) (sym held) (tabled-canonical bare n))
+    (c.requires.sizes.1.1, subst (Canonical n) (sym held) (tabled_canonical bare n))
 
 pub returns : goal.returns
 returns c =

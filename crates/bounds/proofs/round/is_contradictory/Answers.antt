@@ -2,7 +2,7 @@ use Rattle.std.proofs.Common.{◌≡◌, true, false, not, length, get_or, sym, 
 use Rattle.std.proofs.lemmas.Bool.{eq-eqb, ne_eqb, and_from, and_left, and_right, not_from_true, not_from_false}
 use Rattle.semantics.specs.Sets.{has, some_below}
 use Rattle.semantics.specs.Alternating.{clashes}
-use Rattle.semantics.proofs.Booleans.{true_from, some-from, holds}
+use Rattle.semantics.proofs.Booleans.{true_from, some_from, holds}
 use Rattle.bounds.specs.Rounds.{pair}
 use Rattle.bounds.proofs.Clashing.{calm_more}
 use Rattle.bounds.proofs.round.is_contradictory.Goals as goal
@@ -15,7 +15,7 @@ returns-then-possible-atom-ne1 c =
     let i = c.loop-atom.atom in
     let q = pair s u in
     let clash : clashes q i ≡ true = and_from (has s i) (not (has u i)) (eq-eqb (get_or s i 0) 1 c.if-sure-atom-eq1.true) (not_from_false (has u i) (ne_eqb (get_or u i 0) 1 c.if-possible-atom-ne1.true)) in
-    sym (true_from (some_below (length s) (clashes q)) (some-from (clashes q) (length s) i (omega arith) (holds (clashes q i) clash)))
+    sym (true_from (some_below (length s) (clashes q)) (some_from (clashes q) (length s) i (omega arith) (holds (clashes q i) clash)))
 
 pub loop-atom-preserved : goal.loop-atom-preserved
 loop-atom-preserved c =

@@ -9,7 +9,7 @@ use Rattle.derivation.specs.Worklist.{Underway, Nothing}
 use Rattle.derivation.proofs.Chaining.{indexed}
 use Rattle.derivation.proofs.Firing.{from_start}
 use Rattle.derivation.proofs.Room.{absent_few}
-use Rattle.derivation.proofs.Working.{take_last, waits-below, finish}
+use Rattle.derivation.proofs.Working.{take_last, waits_below, finish}
 use Rattle.derivation.proofs.derive.derive.Goals as goal
 
 pub fire_all-requires : goal.fire_all-requires
@@ -29,7 +29,7 @@ wake-requires c =
     let left = take c.pop.new.self.len c.pop.new.self.entries.now in
     let u = from_start rs c.args.by.now bare c.requires.below.0 c.requires.canonical c.new-pending.result.len c.new-pending.result.entries.now c.new-pending.ensures.len _ _ model _ c.fire_all.ensures.fired c.loop-atom.invariant.2 in
     let v = subst (Underway rs c.args.by.now bare Nothing model) c.in-Some.ensures.held u in
-    let below = waits-below rs c.args.by.now bare Nothing model (left ++ a ∷ []) v a (in_append_right left (a ∷ []) a (inl refl)) in
+    let below = waits_below rs c.args.by.now bare Nothing model (left ++ a ∷ []) v a (in_append_right left (a ∷ []) a (inl refl)) in
     let same : length bare ≡ length model = omega arith in
     let index = subst (Indexed (length bare) rs) (sym c.requires.index.0) (indexed (length bare) rs c.requires.below.0) in
     let few = absent_few bare in

@@ -3,7 +3,7 @@ use Rattle.semantics.specs.Sets.{all}
 use Rattle.semantics.specs.Rules.{rule_below}
 use Rattle.lines.specs.Lines.{rules_of}
 use Rattle.derivation.specs.Worklist.{From}
-use Rattle.derivation.proofs.Firing.{fire-line, from_more}
+use Rattle.derivation.proofs.Firing.{fire_line, from_more}
 use Rattle.lines.proofs.Reading.{rule_below_read, rules_count}
 use Rattle.derivation.proofs.Working.{all_done}
 use Rattle.derivation.proofs.derive.fire_all.Goals as goal
@@ -28,7 +28,7 @@ loop-line-preserved c =
       omega arith,
       omega arith,
       λ bare u.
-          fire-line c.args.lines.now c.args.by.now i c.line-item.result (omega arith) c.line-item.is (From i) _ (from_more i)
+          fire_line c.args.lines.now c.args.by.now i c.line-item.result (omega arith) c.line-item.is (From i) _ (from_more i)
           c.loop-line.model (take c.loop-line.pending.len c.loop-line.pending.entries.now) _ _ c.fire.ensures.model c.fire.ensures.held bare (c.loop-line.invariant.2 bare u),
     )
 

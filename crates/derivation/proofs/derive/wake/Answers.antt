@@ -5,7 +5,7 @@ use Rattle.semantics.specs.Rules.{rule_below}
 use Rattle.derivation.specs.Indexing.{no_cell, Leads}
 use Rattle.lines.specs.Lines.{rules_of}
 use Rattle.derivation.specs.Worklist.{Advances}
-use Rattle.derivation.proofs.Firing.{fire-line, leads_more, leads_none}
+use Rattle.derivation.proofs.Firing.{fire_line, leads_more, leads_none}
 use Rattle.lines.proofs.Reading.{rule_below_read, rules_count}
 use Rattle.derivation.proofs.Working.{all_done}
 use Rattle.derivation.proofs.derive.wake.Goals as goal
@@ -74,7 +74,7 @@ loop-chain-preserved c =
       omega arith,
       omega arith,
       λ bare u.
-          fire-line ls c.args.by.now cell.line c.index-lines-cell.result (omega (arith, rules_count ls)) c.index-lines-cell.is (Leads cells chain) (Leads cells cell.next) less
+          fire_line ls c.args.by.now cell.line c.index-lines-cell.result (omega (arith, rules_count ls)) c.index-lines-cell.is (Leads cells chain) (Leads cells cell.next) less
           c.loop-chain.model (take c.loop-chain.pending.len c.loop-chain.pending.entries.now) _ _ c.fire.ensures.model c.fire.ensures.held bare (c.loop-chain.invariant.4 bare u),
     )
 

@@ -5,7 +5,7 @@ use Rattle.semantics.specs.declared.Literal.{Literal}
 use Rattle.semantics.specs.declared.Side.TheVariants.{Present}
 use Rattle.enumeration.specs.Marking.{Marked}
 use Rattle.enumeration.proofs.Backing.{reverse_push}
-use Rattle.enumeration.proofs.Marking.{marked_none, marked_more, marked-past}
+use Rattle.enumeration.proofs.Marking.{marked_none, marked_more, marked_past}
 use Rattle.enumeration.proofs.marks.mark.Goals as goal
 use Rattle.enumeration.proofs.marks.mark.Goals.{then-atom-marks, else-atom-marks}
 
@@ -24,7 +24,7 @@ loop-choice-preserved c =
     subst (λ cs. Marked cs c.if-atom-marks.marks) (sym more)
     (elim c.if-atom-marks.branch [
       | then-atom-marks w ↦ subst (Marked (get_or items i d ∷ older)) (sym w.marks-is) (marked_more older (get_or items i d) c.loop-choice.marks c.loop-choice.invariant w.byte_of.result w.byte_of.ensures)
-      | else-atom-marks w ↦ subst (Marked (get_or items i d ∷ older)) (sym w.marks-is) (marked-past older (get_or items i d) c.loop-choice.marks c.loop-choice.invariant w.if-atom-marks.false)
+      | else-atom-marks w ↦ subst (Marked (get_or items i d ∷ older)) (sym w.marks-is) (marked_past older (get_or items i d) c.loop-choice.marks c.loop-choice.invariant w.if-atom-marks.false)
     ])
 
 -- src/marks.rt:16:1

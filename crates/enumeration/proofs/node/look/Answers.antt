@@ -3,7 +3,7 @@ use Rattle.semantics.specs.Alternating.{Pair}
 use Rattle.semantics.specs.Plans.{over}
 use Rattle.semantics.proofs.Bounds.{calm_from}
 use Rattle.derivation.specs.Rulesets.{atoms_in, rules_in}
-use Rattle.enumeration.proofs.Nodes.{beyond_none, clash-refutes, lowest-open}
+use Rattle.enumeration.proofs.Nodes.{beyond_none, clash_refutes, lowest_open}
 use Rattle.enumeration.proofs.node.look.Goals as goal
 use Rattle.enumeration.proofs.node.look.Goals.{then-is_some-via-then-is_some, then-is_some-via-else-is_some+then-bar_holds}
 
@@ -13,7 +13,7 @@ returns-then-is_some c bank =
     let p = over bank (atoms_in c.args.rules.now) (rules_in c.args.rules.now) in
     let q : Pair = record { sure = c.args.sure.now; possible = c.args.possible.now } in
     elim c.then-is_some.branch [
-      | then-is_some-via-then-is_some w ↦ inl (clash-refutes p q c.first_beyond.result c.requires.0 c.first_beyond.ensures (sym c.is_some.ensures ∙ w.if-is_some.true))
+      | then-is_some-via-then-is_some w ↦ inl (clash_refutes p q c.first_beyond.result c.requires.0 c.first_beyond.ensures (sym c.is_some.ensures ∙ w.if-is_some.true))
       | then-is_some-via-else-is_some+then-bar_holds w ↦ inr (sym w.bar_holds.ensures ∙ w.if-bar_holds.true)
     ]
 
@@ -23,7 +23,7 @@ returns-in-Some c bank =
     let p = over bank (atoms_in c.args.rules.now) (rules_in c.args.rules.now) in
     let q : Pair = record { sure = c.args.sure.now; possible = c.args.possible.now } in
     let low = beyond_none q.sure q.possible c.first_beyond.result c.first_beyond.ensures (sym c.is_some.ensures ∙ c.if-is_some.false) in
-    (record { calm = calm_from p q low; unbarred = sym c.bar_holds.ensures ∙ c.if-bar_holds.false }, lowest-open p q c.in-Some.atom c.requires.1 low c.in-Some.ensures)
+    (record { calm = calm_from p q low; unbarred = sym c.bar_holds.ensures ∙ c.if-bar_holds.false }, lowest_open p q c.in-Some.atom c.requires.1 low c.in-Some.ensures)
 
 -- src/node.rt:24:1
 pub returns-in-None : goal.returns-in-None

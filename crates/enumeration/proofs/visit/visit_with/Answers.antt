@@ -3,7 +3,7 @@ use Rattle.lines.specs.Stacks.{newest_first}
 use Rattle.semantics.specs.Alternating.{Pair}
 use Rattle.derivation.specs.Rulesets.{atoms_in}
 use Rattle.enumeration.specs.Programs.{program}
-use Rattle.enumeration.proofs.Visits.{refuted-passes, branch-goes-on, miss-passes, leaf-found}
+use Rattle.enumeration.proofs.Visits.{refuted_passes, branch_goes_on, miss_passes, leaf_found}
 use Rattle.enumeration.proofs.visit.visit_with.Goals as goal
 
 -- src/visit.rt:55:1
@@ -14,7 +14,7 @@ returns-in-Refuted g c =
     let size : length c.mark.new.marks ≡ atoms_in c.args.rules.now = omega arith in
     record {
       kept = λ _. refl;
-      visited = refuted-passes (program bank c.args.rules.now) (newest_first c.args.choices.now) c.mark.new.marks q size c.mark.ensures c.narrow.ensures (c.in-Refuted.ensures bank);
+      visited = refuted_passes (program bank c.args.rules.now) (newest_first c.args.choices.now) c.mark.new.marks q size c.mark.ensures c.narrow.ensures (c.in-Refuted.ensures bank);
     }
 
 -- src/visit.rt:55:1
@@ -25,7 +25,7 @@ returns-in-Branches g c =
     let size : length c.mark.new.marks ≡ atoms_in c.args.rules.now = omega arith in
     record {
       kept = λ _. refl;
-      visited = branch-goes-on (program bank c.args.rules.now) (newest_first c.args.choices.now) c.mark.new.marks q size c.mark.ensures c.narrow.ensures c.in-Branches.atom (c.in-Branches.ensures bank);
+      visited = branch_goes_on (program bank c.args.rules.now) (newest_first c.args.choices.now) c.mark.new.marks q size c.mark.ensures c.narrow.ensures c.in-Branches.atom (c.in-Branches.ensures bank);
     }
 
 -- src/visit.rt:55:1
@@ -36,7 +36,7 @@ returns-then-is_plan g c =
     let size : length c.mark.new.marks ≡ atoms_in c.args.rules.now = omega arith in
     record {
       kept = λ e. let z : ◌≡◌ {A = ℕ} 0 1 = cc in absurd (omega arith);
-      visited = leaf-found (program bank c.args.rules.now) (newest_first c.args.choices.now) c.mark.new.marks q size c.mark.ensures c.narrow.ensures (c.in-Meets.ensures bank)
+      visited = leaf_found (program bank c.args.rules.now) (newest_first c.args.choices.now) c.mark.new.marks q size c.mark.ensures c.narrow.ensures (c.in-Meets.ensures bank)
           (sym c.is_plan.ensures ∙ c.if-is_plan.true) c.copy_from_slice.new.self c.copy_from_slice.ensures.after;
     }
 
@@ -48,6 +48,6 @@ returns-else-is_plan g c =
     let size : length c.mark.new.marks ≡ atoms_in c.args.rules.now = omega arith in
     record {
       kept = λ _. refl;
-      visited = miss-passes (program bank c.args.rules.now) (newest_first c.args.choices.now) c.mark.new.marks q size c.mark.ensures c.narrow.ensures (c.in-Meets.ensures bank)
+      visited = miss_passes (program bank c.args.rules.now) (newest_first c.args.choices.now) c.mark.new.marks q size c.mark.ensures c.narrow.ensures (c.in-Meets.ensures bank)
           (sym c.is_plan.ensures ∙ c.if-is_plan.false);
     }

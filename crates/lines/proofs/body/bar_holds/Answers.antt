@@ -2,7 +2,7 @@ use Rattle.std.proofs.Common.{◌<◌, ◌≤◌, Bool, ◌&&◌, T, length, sym
 use Rattle.std.proofs.lemmas.List.{at_drop_all}
 use Rattle.semantics.specs.Rules.{Rule, body_holds, bar_holds, is_bar, rule_below}
 use Rattle.lines.specs.Lines.{rules_of, no_rule}
-use Rattle.lines.proofs.Loops.{all_first, all_rest, any-passed, any-failed}
+use Rattle.lines.proofs.Loops.{all_first, all_rest, any_passed, any_failed}
 use Rattle.lines.proofs.Reading.{rule_read, rules_count}
 use Rattle.lines.proofs.body.bar_holds.Goals as goal
 
@@ -23,7 +23,7 @@ returns-then-is_broken c =
     let p : Rule → Bool = λ r. is_bar r.head && body_holds s by r.body in
     let h : i < length (rules_of ls) = omega (arith, rules_count ls) in
     let e = ap p (rule_read ls i c.line-item.result (omega arith) c.line-item.is) in
-    sym (sym c.loop-line.invariant.1 ∙ any-passed p (rules_of ls) i no_rule h (e ∙ sym c.if-is_broken.ensures))
+    sym (sym c.loop-line.invariant.1 ∙ any_passed p (rules_of ls) i no_rule h (e ∙ sym c.if-is_broken.ensures))
 
 pub loop-line-preserved : goal.loop-line-preserved
 loop-line-preserved c =
@@ -35,7 +35,7 @@ loop-line-preserved c =
     let h : i < length (rules_of ls) = omega (arith, rules_count ls) in
     let e = ap p (rule_read ls i c.line-item.result (omega arith) c.line-item.is) in (
       all_rest (rule_below (length s)) (rules_of ls) i no_rule h c.loop-line.invariant.0,
-      any-failed p (rules_of ls) i no_rule h (e ∙ sym c.if-is_broken.ensures) ∙ c.loop-line.invariant.1,
+      any_failed p (rules_of ls) i no_rule h (e ∙ sym c.if-is_broken.ensures) ∙ c.loop-line.invariant.1,
     )
 
 pub returns : goal.returns

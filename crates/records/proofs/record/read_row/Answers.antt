@@ -1,6 +1,6 @@
 use Rattle.std.proofs.lemmas.Result.{err_from_is_err_and}
 use Rattle.fields.specs.Shown.{declared, left, shown}
-use Rattle.records.proofs.Records.{row-miscounted, row_first, row-second, row-third, row-accepted}
+use Rattle.records.proofs.Records.{row-miscounted, row_first, row_second, row_third, row-accepted}
 use Rattle.records.proofs.record.read_row.Goals as goal
 
 pub returns-in_default : goal.returns-in_default
@@ -14,12 +14,12 @@ returns-in_err-one c =
 pub returns-in_err-other : goal.returns-in_err-other
 returns-in_err-other c =
     let p = err_from_is_err_and c.from_residual-in_err-other.result c.from_residual-in_err-other.ensures.1 in
-    rw (p.1, p.2) (row-second (declared c.args.names.now) (left c.args.fields) (shown c.in-Some.first) (shown c.in-Some.second) (shown c.in-Some.out) c.in-Some.ensures c.in_ok-one.one c.in_ok-one.ensures c.in_err-other.field-0.0 c.in_err-other.ensures)
+    rw (p.1, p.2) (row_second (declared c.args.names.now) (left c.args.fields) (shown c.in-Some.first) (shown c.in-Some.second) (shown c.in-Some.out) c.in-Some.ensures c.in_ok-one.one c.in_ok-one.ensures c.in_err-other.field-0.0 c.in_err-other.ensures)
 
 pub returns-in_err-to : goal.returns-in_err-to
 returns-in_err-to c =
     let p = err_from_is_err_and c.from_residual-in_err-to.result c.from_residual-in_err-to.ensures.1 in
-    rw (p.1, p.2) (row-third (declared c.args.names.now) (left c.args.fields) (shown c.in-Some.first) (shown c.in-Some.second) (shown c.in-Some.out) c.in-Some.ensures c.in_ok-one.one c.in_ok-one.ensures c.in_ok-other.other c.in_ok-other.ensures c.in_err-to.field-0.0 c.in_err-to.ensures)
+    rw (p.1, p.2) (row_third (declared c.args.names.now) (left c.args.fields) (shown c.in-Some.first) (shown c.in-Some.second) (shown c.in-Some.out) c.in-Some.ensures c.in_ok-one.one c.in_ok-one.ensures c.in_ok-other.other c.in_ok-other.ensures c.in_err-to.field-0.0 c.in_err-to.ensures)
 
 pub returns : goal.returns
 returns c = row-accepted (declared c.args.names.now) (left c.args.fields) (shown c.in-Some.first) (shown c.in-Some.second) (shown c.in-Some.out) c.in-Some.ensures c.in_ok-one.one c.in_ok-one.ensures c.in_ok-other.other c.in_ok-other.ensures c.in_ok-to.to c.in_ok-to.ensures

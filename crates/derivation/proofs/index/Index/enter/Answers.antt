@@ -3,7 +3,7 @@ use Rattle.std.proofs.lemmas.List.{at_drop_more, at_drop_all}
 use Rattle.semantics.specs.declared.Literal.{Literal}
 use Rattle.semantics.specs.declared.Side.TheVariants.{Present}
 use Rattle.derivation.specs.Indexing.{chains_of, put_body}
-use Rattle.lines.proofs.Loops.{all_get_d}
+use Rattle.lines.proofs.Loops.{all-get_or}
 use Rattle.derivation.proofs.index.Index.enter.Goals as goal
 
 pub put-requires : goal.put-requires
@@ -12,7 +12,7 @@ put-requires c =
     let i = c.loop-literal.literal-index in
     let d : Literal = record { atom = 0; side = Present } in
     let n = vec_len c.args.self.now.first in
-    let below = ltb→lt (get_or xs i d).atom n (all_get_d (λ l. ltb l.atom n) xs i d (omega arith) c.requires.0) in
+    let below = ltb→lt (get_or xs i d).atom n (all-get_or (λ l. ltb l.atom n) xs i d (omega arith) c.requires.0) in
     let fits = c.requires.1 in
     let inv = c.loop-literal.invariant in
     (omega arith, (omega arith, omega arith))

@@ -4,7 +4,7 @@ use Rattle.semantics.specs.declared.Literal.{Literal}
 use Rattle.semantics.specs.declared.Side.TheVariants.{Present}
 use Rattle.derivation.specs.Indexing.{put_body}
 use Rattle.derivation.proofs.Chaining.{put_body_push}
-use Rattle.lines.proofs.Loops.{all_get_d}
+use Rattle.lines.proofs.Loops.{all-get_or}
 use Rattle.derivation.proofs.index.Index.strike.Goals as goal
 
 pub loop-i-init : goal.loop-i-init
@@ -19,7 +19,7 @@ take-requires c =
     let d : Literal = record { atom = 0; side = Present } in
     let n = vec_len c.args.self.now.first in
     let inv = c.loop-i.invariant in
-    let below = ltb→lt (get_or xs i d).atom n (all_get_d (λ l. ltb l.atom n) xs i d (omega arith) c.requires) in
+    let below = ltb→lt (get_or xs i d).atom n (all-get_or (λ l. ltb l.atom n) xs i d (omega arith) c.requires) in
     omega arith
 
 pub loop-i-preserved : goal.loop-i-preserved

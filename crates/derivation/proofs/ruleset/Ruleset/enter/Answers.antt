@@ -5,7 +5,7 @@ use Rattle.semantics.proofs.Booleans.{and_right}
 use Rattle.derivation.specs.Indexing.{chains_of, put_body, index_of, numbers}
 use Rattle.lines.specs.Lines.{rule_of, rules_of}
 use Rattle.derivation.proofs.Chaining.{index_cells, same_numbers}
-use Rattle.derivation.proofs.Keeping.{below-push, entered}
+use Rattle.derivation.proofs.Keeping.{below_push, entered}
 use Rattle.lines.proofs.Reading.{body_short}
 use Rattle.derivation.proofs.ruleset.Ruleset.enter.Goals as goal
 
@@ -40,7 +40,7 @@ invariant_of-self-2 c =
     let room = c.requires.1 in
     let narrow : n' ≤ 256 = omega (arith, self.narrow) in
     let few : vec_len c.push_reserved.new.self ≤ 512 = omega arith in
-    let below = below-push n ls l self.below c.requires.0 in
+    let below = below_push n ls l self.below c.requires.0 in
     let step = c.in_ok-enter.ensures.chains ∙ ap (λ xs. put_body c.len.result xs (chains_of self.index)) c.body.ensures in
     let same = entered n ls l (chains_of self.index) ch c.len.result self.indexed number step in
     record {

@@ -4,7 +4,7 @@ use Rattle.semantics.specs.Rules.{rule_below, head_below}
 use Rattle.semantics.proofs.Booleans.{and_right}
 use Rattle.derivation.specs.Indexing.{chains_of, put_body, index_of, numbers}
 use Rattle.lines.specs.Lines.{rule_of, rules_of}
-use Rattle.derivation.proofs.Keeping.{below-front, below_last, struck}
+use Rattle.derivation.proofs.Keeping.{below_front, below_last, struck}
 use Rattle.derivation.proofs.ruleset.Ruleset.strike.Goals as goal
 
 pub strike-requires : goal.strike-requires
@@ -28,7 +28,7 @@ invariant_of-self-2 c =
     let len = c.in_ok-line.ensures.len in
     let narrow : vec_len c.strike.new.self.first ≤ 256 = omega (arith, self.narrow) in
     let few : vec_len c.pop.new.self ≤ 512 = omega (arith, self.few) in
-    let below = below-front n ls l (subst (λ xs. T (all (rule_below n) (rules_of xs))) items self.below) in
+    let below = below_front n ls l (subst (λ xs. T (all (rule_below n) (rules_of xs))) items self.below) in
     let before = struck n ls l (chains_of self.index) (subst (λ xs. numbers (chains_of self.index) ≡ numbers (index_of n (rules_of xs))) items self.indexed) in
     let whole = before ∙ ap (λ xs. put_body (length ls) xs (index_of n (rules_of ls))) (sym c.body.ensures) in
     let same = ap numbers (c.strike.ensures.chains (length ls) (index_of n (rules_of ls)) whole) in

@@ -3,7 +3,7 @@ use lib.ListN.{length-map}
 use Rattle.std.proofs.lemmas.List.{map-append}
 use Rattle.semantics.specs.Rules.{rule_below}
 use Rattle.semantics.specs.Sheets.{enter, fault, line}
-use Rattle.semantics.proofs.Sheets.{enter-below, enter-forms}
+use Rattle.semantics.proofs.Sheets.{enter_below, enter_forms}
 use Rattle.lines.specs.Lines.{rule_of, rules_of}
 use Rattle.derivation.specs.Rulesets.{rules_in, atoms_in}
 use Rattle.sheet.specs.Contents.{contents, state_of, anew}
@@ -15,7 +15,7 @@ enter-requires g c =
     let self = c.args.self.now in
     let st = state_of (g.M.Module.meaning self.bank) (contents self) in
     let checked = c.in_ok-line.ensures in
-    let below : T (rule_below (length (vec_items self.levels)) (line c.args.head c.args.body.now)) = enter-below st c.args.head c.args.body.now (sym checked.checked.finds) in
+    let below : T (rule_below (length (vec_items self.levels)) (line c.args.head c.args.body.now)) = enter_below st c.args.head c.args.body.now (sym checked.checked.finds) in
     let n : length (vec_items self.levels) ≡ atoms_in self.rules = omega (arith, self.ruled, self.levels.ok.0) in
     let few : length (contents self).rules < 512 = checked.few refl in (
       subst (λ r. T (rule_below (atoms_in self.rules) r)) (sym checked.made) (subst (λ n. T (rule_below n (line c.args.head c.args.body.now))) n below),
@@ -36,5 +36,5 @@ returns g c =
     record {
       same = search rules;
       entered = restarts bank s (enter h body) s.levels (s.rules ++ line h body ∷ []) (contents c.restart.new.self) passes refl
-          (c.restart.ensures.fresh ∙ ap (anew s.levels) rules) refl (λ k l. enter-forms (state_of bank s) h body (k.formed l) passes);
+          (c.restart.ensures.fresh ∙ ap (anew s.levels) rules) refl (λ k l. enter_forms (state_of bank s) h body (k.formed l) passes);
     }

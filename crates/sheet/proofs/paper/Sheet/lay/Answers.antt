@@ -1,6 +1,6 @@
 use Rattle.std.proofs.Common.{◌≡◌, [], None, vec_items, sym, refl, rules}
 use Rattle.semantics.specs.Sheets.{lay, fault}
-use Rattle.semantics.proofs.Sheets.{lay-forms}
+use Rattle.semantics.proofs.Sheets.{lay_forms}
 use Rattle.derivation.specs.Rulesets.{rules_in}
 use Rattle.sheet.specs.Contents.{contents, state_of}
 use Rattle.sheet.proofs.Calls.{restarts, anew_is}
@@ -18,5 +18,5 @@ returns g c =
     let fresh = anew_is levels (vec_items parts.levels) [] (rules_in parts.rules) (vec_items parts.tallies) parted.levels_are parted.no_rules parted.tallies_are in
     record {
       same = search rules;
-      laid = restarts bank s (lay levels) levels [] _ passes refl fresh refl (λ k l. lay-forms (state_of bank s) levels (g.met.M.Module.lawful self.bank) passes);
+      laid = restarts bank s (lay levels) levels [] _ passes refl fresh refl (λ k l. lay_forms (state_of bank s) levels (g.met.M.Module.lawful self.bank) passes);
     }

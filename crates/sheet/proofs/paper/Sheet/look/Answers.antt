@@ -5,7 +5,7 @@ use Rattle.listing.specs.States.{listing_of}
 use Rattle.listing.specs.Seeking.{newest_of}
 use Rattle.listing.proofs.Seeking.{goes_on_alike}
 use Rattle.sheet.specs.Contents.{contents, in_force}
-use Rattle.sheet.proofs.Steps.{looked-if}
+use Rattle.sheet.proofs.Steps.{looked_if}
 use Rattle.sheet.proofs.paper.Sheet.look.Goals as goal
 
 pub returns : goal.returns
@@ -19,7 +19,7 @@ returns g c =
       same = refl;
       opened = refl;
       kept = sought.ensures.kept;
-      looked = looked-if (listing_of s.listing) (in_force bank (contents s)) _ _ sought.new.plan sought.result.found (length c.args.plan.now) (length (vec_items s.levels))
+      looked = looked_if (listing_of s.listing) (in_force bank (contents s)) _ _ sought.new.plan sought.result.found (length c.args.plan.now) (length (vec_items s.levels))
           (omega (arith, s.levels.ok.0))
           (goes_on_alike (listing_of s.listing) bank (rules_in s.rules) sought.new.plan sought.result.found n
           (ap (newest_of s.depth) c.as_mut_slice.ensures.value)

@@ -7,7 +7,7 @@ use Rattle.listing.specs.States.{listing_of}
 use Rattle.listing.specs.Seeking.{GoesOn}
 use Rattle.listing.specs.Tallies.{Counted, raised}
 use Rattle.sheet.specs.Steps.{ended_at}
-use Rattle.sheet.proofs.Steps.{if-looked, hands_out, comes-to-end}
+use Rattle.sheet.proofs.Steps.{if_looked, hands_out, comes_to_end}
 use Rattle.sheet.proofs.paper.Sheet.next.Goals as goal
 
 pub returns-in_default-true-true : goal.returns-in_default-true-true
@@ -22,7 +22,7 @@ returns-in_default-true-true g c =
     let tallied : length (vec_items s.tallies) ≡ length (vec_items s.levels) = omega (arith, s.tallied, s.tallies.ok.0, s.levels.ok.0) in
     let room : length c.count.new.tallies ≡ vec_len u.tallies = c.count.auto.tallies ∙ c.as_mut_slice.ensures.len in
     let goes : GoesOn (listing_of s.listing) (in_force bank (contents s)) (contents s).opened (contents u).opened set true =
-    if-looked (listing_of s.listing) (in_force bank (contents s)) (contents s).opened (contents u).opened set true (length c.args.buffer.now) (length (vec_items s.levels)) fits looked.looked in
+    if_looked (listing_of s.listing) (in_force bank (contents s)) (contents s).opened (contents u).opened set true (length c.args.buffer.now) (length (vec_items s.levels)) fits looked.looked in
     record {
       same = looked.same;
       kept = search rules;
@@ -50,7 +50,7 @@ returns-in_default-true-false g c =
     record {
       same = looked.same;
       kept = λ _. looked.kept refl;
-      stepped = comes-to-end bank (contents s) _ (contents u).opened set (length c.args.buffer.now) (omega (arith, s.levels.ok.0)) fits
-          (if-looked (listing_of s.listing) (in_force bank (contents s)) (contents s).opened (contents u).opened set false (length c.args.buffer.now) (length (vec_items s.levels)) fits looked.looked)
+      stepped = comes_to_end bank (contents s) _ (contents u).opened set (length c.args.buffer.now) (omega (arith, s.levels.ok.0)) fits
+          (if_looked (listing_of s.listing) (in_force bank (contents s)) (contents s).opened (contents u).opened set false (length c.args.buffer.now) (length (vec_items s.levels)) fits looked.looked)
           (ap (λ x. is_full x.listing) (sym looked.opened) ∙ going) (ap (λ x. ended_at x (contents u).opened) looked.opened);
     }
