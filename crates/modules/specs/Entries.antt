@@ -2,9 +2,12 @@
 use Rattle.std.specs.Prelude.{◌≡◌, ℕ, ◌+◌, ◌<◌, ◌≤◌, Bool, true, false, cond, T, leb, List, [], ◌∷◌, ◌++◌, map, length, Some, None, nat_le, slice_index_or}
 use Rattle.std.proofs.Common.{ap, sym, ◌∙◌, arith, leb→le, le→leb}
 use Rattle.std.proofs.lemmas.List.{get_or_past, get_or-map, map-append, length-map}
-use Rattle.semantics.specs.Modules.{Row}
+use Rattle.semantics.specs.Banks.{Lawful}
+use Rattle.semantics.specs.Modules.{Row, pair_table}
+use Rattle.semantics.proofs.Modules.{table_lawful}
 use Rattle.modules.specs.declared.rows.Pair.{Pair}
-use Rattle.modules.specs.Tables.{row_of, RowAt}
+use Rattle.modules.specs.declared.rows.PairTable.{PairTable}
+use Rattle.modules.specs.Tables.{row_of, rows_of, RowAt}
 use Rattle.modules.specs.Pairs.{atoms_fit}
 use Rattle.std.specs.List.{AllByRecursion}
 use Rattle.semantics.proofs.Booleans.{holds, true_from, and_left, and_right, and_from, all_both}
@@ -28,6 +31,11 @@ fits_within (p ∷ ps) h = (leb→le p.to 65535 (and_left (nat_le p.to 65535) (a
 
 pub rows_within : (rows : List Pair) → atoms_fit rows ≡ true → AllByRecursion (λ r. r.to ≤ 65535) (map row_of rows)
 rows_within rows e = fits_within rows (holds (atoms_fit rows) e)
+
+-- what each table owes as a module
+pub table_keeps_the_law : (table : PairTable) → Lawful (pair_table (rows_of table))
+table_keeps_the_law table =
+    table_lawful (rows_of table) (record { few = omega (arith, table.few, table.rows.ok.0, length-map table.rows.items row_of); within = rows_within table.rows.items table.within })
 
 -- a row more, where there was memory for it
 pub push_few : (b : Bool) (n m : ℕ) → m ≡ cond b (n + 1) n → n < 64 → m ≤ 64

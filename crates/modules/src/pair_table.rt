@@ -2,11 +2,8 @@
 ghost use Rattle.std.specs.Prelude.{◌≡◌, ◌&&◌, ◌||◌, [], ◌∷◌, ◌++◌, ◌==◌};
 ghost use Rattle.semantics.specs.Sets.{has};
 ghost use Rattle.semantics.specs.Modules.{pair_table};
-ghost use Rattle.modules.specs.Tables.{rows_of, RowPushed, RowAt, row_of};
-ghost use Rattle.std.proofs.Common.{arith};
-ghost use Rattle.std.proofs.lemmas.List.{length-map};
-ghost use Rattle.semantics.proofs.Modules.{table_lawful};
-ghost use Rattle.modules.specs.Entries.{rows_within};
+ghost use Rattle.modules.specs.Tables.{rows_of, RowPushed, RowAt};
+ghost use Rattle.modules.specs.Entries.{table_keeps_the_law};
 
 use crate::query::Module;
 use crate::rows::{Pair, PairTable};
@@ -71,7 +68,7 @@ fn row_at(table: &PairTable, position: u16) -> Option<Pair>
 impl Module for PairTable {
     ghost meaning = { λ t. pair_table (rows_of t) };
 
-    ghost lawful = { λ x. table_lawful (rows_of x) (record { few = omega (arith, x.few, x.rows.ok.0, length-map x.rows.items row_of); within = rows_within x.rows.items x.within }) };
+    ghost lawful = { table_keeps_the_law };
 
     fn outputs(&self) -> u16 {
         self.rows.len() as u16
