@@ -1,6 +1,6 @@
 #!/usr/bin/env python3
 """Brings the names of this repository's own definitions and lemmas to one spelling, in place: a type or a fact in
-upper camel case, everything else in snake case, with a dash only where a lemma's name joins two names.
+upper camel case, everything else in snake case, with a dash only where a lemma's name joins two functions.
 
 usage: python3 tools/respell_names.py [--list]     at the top of the repository; --list prints the names and changes nothing
 
@@ -16,15 +16,18 @@ NAME = r"[A-Za-z][A-Za-z0-9_'\-∪∷⊆∈≡≤<+*◌]*"
 SIGNATURE = re.compile(r"^( *)(?:abbrev |unfoldable )?(?:pub )?(?:abbrev |unfoldable )?(" + NAME + r") : (.*)$")
 RECORD = re.compile(r"^( *)(?:pub )?(?:record|data) (?:pub )?(" + NAME + r")[ :]")
 OPERATOR = re.compile(r"◌")
-# names that the rules below would give to another definition too, or that speak of an older word
-CHOSEN = {"is-plan": "is_plan_step", "getD-tabled": "get_or-tabled", "okOr-ok": "ok_or-ok", "all_get_d": "all-get_or"}
+# names that the rules below would give to another definition too, that speak of an older word, or that join two names:
+# a lemma on one function applied to another
+CHOSEN = {
+    "is-plan": "is_plan_step", "okOr-ok": "ok_or_ok", "getD-tabled": "get_or-tabled", "all_get_d": "all-get_or",
+    "has-set-other": "has-set_other", "has-set_other": "has-set_other", "ok_or-ok": "ok_or_ok",
+}
+JOINING = {"get_or-tabled", "all-get_or", "has-set", "has-set_other", "has-tabled", "length-tabled", "absent-set"}
 # labels of clauses that had none, by what the clause says
 LABELS = {
-    "t": "below", "model_in_bounds": "room", "marks_len": "sizes", "sure_given_len": "givens", "possible_value": "begin",
+    "t": "below", "model_in_bounds": "room", "marks_len": "sizes", "sure_given_len": "givens", "possible_value": "widest",
     "possible_len": "sizes", "plan_len": "plan_size", "index_value": "index",
 }
-# the words that lemma names join to definitions, beside the definitions themselves
-JOINED = "get_or tabled ok_or ok set_other append take drop set map filter cons length replicate slice_set".split()
 
 
 def antt_files():
@@ -90,40 +93,15 @@ def camel(name):
     return "".join(part[:1].upper() + part[1:] for part in re.split(r"[-_]", name))
 
 
-def lemma(name, words):
-    """Dashes stay between two names, the longest name first; all others become underscores."""
-    parts = name.split("-")
-    groups, i = [], 0
-    while i < len(parts):
-        for k in range(len(parts), i, -1):
-            joined = snake("-".join(parts[i:k]))
-            if joined in words or "-".join(parts[i:k]) in words:
-                groups.append((joined, True))
-                i = k
-                break
-        else:
-            groups.append((snake(parts[i]), False))
-            i += 1
-    out = groups[0][0]
-    for (_, before), (text, after) in zip(groups, groups[1:]):
-        out += ("-" if before and after else "_") + text
-    return out
-
-
 def respelled(kinds):
-    types = {n for n, k in kinds.items() if "type" in k}
-    words = {snake(n) for n, k in kinds.items() if k & {"word"}} | {camel(n) for n in types} | set(JOINED)
     turned = {}
     for name, kind in kinds.items():
-        if OPERATOR.search(name):
+        if OPERATOR.search(name) or name in JOINING:
             continue
         if name in CHOSEN:
-            turned[name] = CHOSEN[name]
-            continue
-        if "type" in kind and len(kind) == 1:
+            new = CHOSEN[name]
+        elif kind == {"type"}:
             new = camel(name) if re.search(r"[-_]", name) or name[0].islower() else name
-        elif kind == {"lemma"}:
-            new = lemma(name, words)
         else:
             new = snake(name)
         if new != name:

@@ -7,7 +7,7 @@ use Rattle.semantics.specs.Sets.{has, same}
 use Rattle.semantics.specs.Plans.{Program, WellFormed}
 use Rattle.semantics.specs.Alternating.{Pair, Marks, is_present, is_absent, narrowed, widest, contradictory, Reached, start, round, room, Last}
 use Rattle.semantics.proofs.Booleans.{count_small}
-use Rattle.semantics.proofs.Bytes.{has_below, tabled_canonical, tabled-has, tabled_passes}
+use Rattle.semantics.proofs.Bytes.{has_below, tabled_canonical, tabled_has, tabled_passes}
 use Rattle.semantics.proofs.Bounds.{calm_from}
 use Rattle.semantics.proofs.Narrowing.{rounds_fall}
 use Rattle.bounds.specs.declared.round.RoundEnd.{RoundEnd}
@@ -62,7 +62,7 @@ module _ (p : Program) (marks : Marks) where
   widest_calm : contradictory p (widest p marks) ≡ false
   widest_calm =
       calm_from p (widest p marks)
-      (λ a h. tabled-has (λ a. not (is_absent (marks a))) p.atoms a (has_below (tabled_canonical (λ a. is_present (marks a)) p.atoms) a h)
+      (λ a h. tabled_has (λ a. not (is_absent (marks a))) p.atoms a (has_below (tabled_canonical (λ a. is_present (marks a)) p.atoms) a h)
       (one_side (marks a) (tabled_passes (λ a. is_present (marks a)) p.atoms a h)))
 
   pub begun : Underway p marks 0 (widest p marks)

@@ -16,5 +16,5 @@ module _ (rs : List Rule) (by : List ℕ) (f g : ℕ → Bool) (n : ℕ) (alike 
   least_alike = steps_alike (suc n)
 
 -- so they can be written as a set
-pub least-tabled : (rs : List Rule) (by : List ℕ) (f : ℕ → Bool) (n : ℕ) → least rs by (has (tabled f 0 n)) n ≡ least rs by f n
-least-tabled rs by f n = least_alike rs by (has (tabled f 0 n)) f n (has-tabled f n)
+pub least_tabled : (rs : List Rule) (by : List ℕ) (f : ℕ → Bool) (n : ℕ) → least rs by (has (tabled f 0 n)) n ≡ least rs by f n
+least_tabled rs by f n = least_alike rs by (has (tabled f 0 n)) f n (has-tabled f n)

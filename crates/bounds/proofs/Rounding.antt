@@ -9,7 +9,7 @@ use Rattle.semantics.specs.Alternating.{Pair, Marks, is_present, is_absent, sure
 use Rattle.semantics.proofs.Bytes.{tabled_canonical}
 use Rattle.bounds.specs.Rounds.{pair, rounded, bank_alone}
 use Rattle.bounds.proofs.Tables.{has-tabled}
-use Rattle.bounds.proofs.Leasts.{least_alike, least-tabled}
+use Rattle.bounds.proofs.Leasts.{least_alike, least_tabled}
 
 pub pair_same : {s t u v : List ℕ} → s ≡ t → u ≡ v → pair s u ≡ pair t v
 pair_same e f = λ i. record { sure = e i; possible = f i }
@@ -25,7 +25,7 @@ module _ (p : Program) (marks : Marks) (given q : Pair) (e : given.sure ≡ tabl
   rounded_narrows =
       pair_same
       (least_alike p.rules q.possible (λ a. has given.sure a || is_present (marks a)) (surely_or_held p marks q) p.atoms held_alike)
-      (ap (λ s. tabled (λ a. has s a && not (is_absent (marks a))) 0 p.atoms) (ap (λ s. least p.rules q.sure (has s) p.atoms) f ∙ least-tabled p.rules q.sure (possibly p q) p.atoms))
+      (ap (λ s. tabled (λ a. has s a && not (is_absent (marks a))) 0 p.atoms) (ap (λ s. least p.rules q.sure (has s) p.atoms) f ∙ least_tabled p.rules q.sure (possibly p q) p.atoms))
 
 -- the same from what the bank gives over as many atoms as a set has bytes
 module _ (bank : Meaning) (rules : List Rule) (n k : ℕ) (q : Pair) (size : k ≡ n) where
@@ -38,6 +38,6 @@ module _ (bank : Meaning) (rules : List Rule) (n k : ℕ) (q : Pair) (size : k �
   pub possibly_canonical : (given : List ℕ) → given ≡ tabled (possibly (bank_alone bank k) q) 0 k → Canonical n given
   possibly_canonical given e = subst (Canonical n) (sym (e ∙ possibly_by)) (tabled_canonical (possibly (over bank n rules) q) n)
 
-  pub rounded-narrowed : (marks : Marks) (given r : Pair) → given.sure ≡ tabled (surely (bank_alone bank k) q) 0 k → given.possible ≡ tabled (possibly (bank_alone bank k) q) 0 k →
+  pub rounded_narrowed : (marks : Marks) (given r : Pair) → given.sure ≡ tabled (surely (bank_alone bank k) q) 0 k → given.possible ≡ tabled (possibly (bank_alone bank k) q) 0 k →
       r ≡ rounded rules n marks given q → r ≡ narrowed (over bank n rules) marks q
-  rounded-narrowed marks given r e f h = h ∙ rounded_narrows (over bank n rules) marks given q (e ∙ surely_by) (f ∙ possibly_by)
+  rounded_narrowed marks given r e f h = h ∙ rounded_narrows (over bank n rules) marks given q (e ∙ surely_by) (f ∙ possibly_by)

@@ -25,7 +25,7 @@ pub fn narrow<M: Module>(
     possible: &mut [u8],
 )
     requires { (length marks.now ≡ atoms_in rules.now) × ((length sure.old ≡ atoms_in rules.now) × (length possible.old ≡ atoms_in rules.now)) }
-    ensures { NarrowedTo (over (M.Module.meaning bank.now) (atoms_in rules.now) (rules_in rules.now)) (marks_in marks.now) (record { sure = sure.exit.now; possible = possible.new }) }
+    ensures { NarrowedTo (over (M.Module.meaning bank.now) (atoms_in rules.now) (rules_in rules.now)) (marks_in marks.now) (record { sure = sure.new; possible = possible.new }) }
 {
     let mut sure_room = [0u8; 256];
     let mut possible_room = [0u8; 256];
@@ -54,7 +54,7 @@ fn do_rounds<M: Module>(
 )
     requires sizes { (length marks.now ≡ atoms_in rules.now) × ((length sure.old ≡ atoms_in rules.now) × (length possible.old ≡ atoms_in rules.now)) }
     requires givens { (length sure_given.old ≡ atoms_in rules.now) × (length possible_given.old ≡ atoms_in rules.now) }
-    requires begin { pair sure.old possible.old ≡ widest (over (M.Module.meaning bank.now) (atoms_in rules.now) (rules_in rules.now)) (marks_in marks.now) }
+    requires widest { pair sure.old possible.old ≡ widest (over (M.Module.meaning bank.now) (atoms_in rules.now) (rules_in rules.now)) (marks_in marks.now) }
     ensures { NarrowedTo (over (M.Module.meaning bank.now) (atoms_in rules.now) (rules_in rules.now)) (marks_in marks.now) (pair sure.new possible.new) }
 {
     for _turn in 0..2 * marks.len() + 1 {

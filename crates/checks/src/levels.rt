@@ -2,7 +2,7 @@
 //
 // An output is an atom of the sheet, and each atom of the sheet that it reads has a level below
 // its own. The place of a fault is the lowest atom or position that has it.
-ghost use Rattle.std.specs.Prelude.{◌≡◌, ◌<◌, ◌≤◌, true, not, ltb, length, is_ok, nat_lt};
+ghost use Rattle.std.specs.Prelude.{◌≡◌, ◌≤◌, true, not, length, is_ok, nat_lt};
 ghost use Rattle.semantics.specs.Sheets.{lowest, level, reads_too_high};
 ghost use Rattle.checks.specs.Checks.{Checked, lay_fault};
 
@@ -46,7 +46,7 @@ pub(crate) fn level_of(levels: &[u8], atom: u16) -> u8
 // The lowest atom whose level is above 15.
 fn high_level(levels: &[u8]) -> Option<u16>
     requires { length levels.now ≤ 256 }
-    ensures { result ≡ lowest (λ a. ltb 15 (level levels.now a)) (length levels.now) }
+    ensures { result ≡ lowest (λ a. nat_lt 15 (level levels.now a)) (length levels.now) }
 {
     for atom in 0..levels.len() {
         if levels[atom] > 15 {

@@ -1,5 +1,5 @@
 //! A text line by line: whether it is whole, the record that the next line holds, and the place of a refusal.
-ghost use Rattle.std.specs.Prelude.{◌≡◌, true, None, Ok};
+ghost use Rattle.std.specs.Prelude.{◌≡◌, None, Ok};
 ghost use Rattle.faults.specs.declared.Fault.TheVariants.{Memory};
 ghost use Rattle.fields.specs.declared.field.Letter.TheVariants as letters;
 ghost use Rattle.fields.specs.Pieces.{lines_of};

@@ -115,8 +115,8 @@ module _ (n m : ℕ) where
         let e : suc (length ch.cells) ≡ get_or after.first a 0 = omega (arith, front) in
         subst (λ c. Leads after.cells c i) e (suc k, rw last h)
 
-    put-leads : Lead after a j
-    put-leads = lead_front 0 j (or_left (eqb j j) false (eqb_refl j))
+    put_leads : Lead after a j
+    put_leads = lead_front 0 j (or_left (eqb j j) false (eqb_refl j))
 
     put_keeps : (b i : ℕ) → Lead ch b i → Lead after b i
     put_keeps b i (k, h) =
@@ -133,7 +133,7 @@ module _ (n m : ℕ) where
     literal_linked Absent = linked
 
     literal_leads : (d : Side) (b : ℕ) → T (plainly b d a) → Lead (put_literal j d a ch) b j
-    literal_leads Present b h = subst (λ x. Lead (put j a ch) x j) (eqb→eq a b h) (put-leads ch linked j named a below)
+    literal_leads Present b h = subst (λ x. Lead (put j a ch) x j) (eqb→eq a b h) (put_leads ch linked j named a below)
     literal_leads Absent b h = absurd h
 
     literal_keeps : (d : Side) (b i : ℕ) → Lead ch b i → Lead (put_literal j d a ch) b i

@@ -24,11 +24,11 @@ module _ {A : Type 0} (d : A) where
   at_place (x ∷ xs) zero l = inl refl
   at_place (x ∷ xs) (suc i) l = inr (at_place xs i (omega arith))
 
-  any-placed : (p : A → Bool) (xs : List A) → T (any p xs) → (i : ℕ) × (i < length xs) × T (p (get_or xs i d))
-  any-placed p [] h = absurd h
-  any-placed p (x ∷ xs) h = elim (or_cases (p x) (any p xs) h) [
+  any_placed : (p : A → Bool) (xs : List A) → T (any p xs) → (i : ℕ) × (i < length xs) × T (p (get_or xs i d))
+  any_placed p [] h = absurd h
+  any_placed p (x ∷ xs) h = elim (or_cases (p x) (any p xs) h) [
     | inl here ↦ (0, omega arith, here)
-    | inr later ↦ let r = any-placed p xs later in (suc r.0, omega (arith, r.1), r.2)
+    | inr later ↦ let r = any_placed p xs later in (suc r.0, omega (arith, r.1), r.2)
   ]
 
 -- a body that holds with one atom more held without it, or asks for it
@@ -213,7 +213,7 @@ module _ (rs : List Rule) (by bare : List ℕ) where
       closed a h = elim (or_cases (has bare a) (derives rs by model a) h) [
         | inl k ↦ u.begun a k
         | inr k ↦
-            let r = any-placed no_rule (λ q. heads q.head a && body_holds model by q.body) rs k in
+            let r = any_placed no_rule (λ q. heads q.head a && body_holds model by q.body) rs k in
             let q = rule r.0 in
             elim (u.fired r.0 r.1 (body_mono model u.used by by all_used (λ b x. x) q.body (and_right (heads q.head a) (body_holds model by q.body) r.2))) [
               | inl y ↦ y a (and_left (heads q.head a) (body_holds model by q.body) r.2)

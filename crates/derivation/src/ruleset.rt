@@ -2,7 +2,7 @@
 //
 // The index is kept in step with the lines: a line is entered and struck in a few steps, whatever
 // else there is. Only entering asks for memory, and it changes nothing where there is none.
-ghost use Rattle.std.specs.Prelude.{◌≡◌, ◌+◌, ◌<◌, ◌≤◌, T, [], ◌∷◌, ◌++◌, length, IfOk, vec_len, MatchResult};
+ghost use Rattle.std.specs.Prelude.{◌≡◌, ◌<◌, ◌≤◌, T, [], ◌∷◌, ◌++◌, length, IfOk, vec_len, MatchResult};
 ghost use Rattle.std.specs.Option.{option_to_list};
 ghost use Rattle.semantics.specs.Sets.{has, all, Canonical};
 ghost use Rattle.semantics.specs.Rules.{least, bar_holds, rule_below};

@@ -16,8 +16,8 @@ pub held_count : (s : Stack Literal) → length (newest_first s) ≡ s.len
 held_count s = length-reverse (held s) ∙ length-take-le s.len s.entries.now s.within
 
 module _ (cs : List Literal) (c : Literal) (rest : List Literal) (e : cs ≡ c ∷ rest) where
-  pub back-absent : c.side ≡ Absent → back cs ≡ Some (present c.atom ∷ rest)
-  back-absent s = ap back e ∙ ap (λ side. turn side c.atom rest (back rest)) s
+  pub back_absent : c.side ≡ Absent → back cs ≡ Some (present c.atom ∷ rest)
+  back_absent s = ap back e ∙ ap (λ side. turn side c.atom rest (back rest)) s
 
-  pub back-present : c.side ≡ Present → back cs ≡ back rest
-  back-present s = ap back e ∙ ap (λ side. turn side c.atom rest (back rest)) s
+  pub back_present : c.side ≡ Present → back cs ≡ back rest
+  back_present s = ap back e ∙ ap (λ side. turn side c.atom rest (back rest)) s

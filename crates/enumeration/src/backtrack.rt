@@ -2,7 +2,7 @@
 //
 // The newest choice that held its atom absent now holds it present, and what was chosen after it
 // is dropped. Where no choice was absent, the enumeration is at its end.
-ghost use Rattle.std.specs.Prelude.{◌≡◌, ◌<◌, ◌≤◌, length, if◌then◌else◌, Some, None};
+ghost use Rattle.std.specs.Prelude.{◌≡◌, length, if◌then◌else◌, Some, None};
 ghost use Rattle.lines.specs.Stacks.{newest_first};
 ghost use Rattle.semantics.specs.Search.{back};
 

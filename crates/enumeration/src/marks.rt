@@ -2,7 +2,7 @@
 //
 // The choices are gone through from the oldest on, so that of two choices of one atom the newer
 // one would stand. An atom past the last byte is passed over.
-ghost use Rattle.std.specs.Prelude.{◌≡◌, length, Some};
+ghost use Rattle.std.specs.Prelude.{◌≡◌, Some};
 ghost use Rattle.lines.specs.Stacks.{newest_first};
 ghost use Rattle.semantics.specs.Alternating.{mark_in};
 ghost use Rattle.enumeration.specs.Marking.{Marked};

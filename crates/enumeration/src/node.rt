@@ -4,7 +4,7 @@
 // A sure atom that is not possible refutes the node, and so does a bar that is surely broken.
 // Bounds that meet leave one candidate. Else some atom is open, possible and not sure, and the
 // enumeration branches at the lowest such atom.
-ghost use Rattle.std.specs.Prelude.{◌≡◌, ℕ, ◌<◌, ◌≤◌, length};
+ghost use Rattle.std.specs.Prelude.{◌≡◌, ◌≤◌, length};
 ghost use Rattle.semantics.specs.Banks.{Meaning};
 ghost use Rattle.semantics.specs.Plans.{over};
 ghost use Rattle.derivation.specs.Rulesets.{atoms_in, rules_in};
@@ -22,7 +22,7 @@ pub enum Node {
 // What the bounds say of their node.
 pub fn look(rules: &Ruleset, sure: &[u8], possible: &[u8]) -> Node
     requires { (length sure.now ≡ atoms_in rules.now) × (length possible.now ≡ atoms_in rules.now) }
-    ensures { (bank : Meaning) → Tells (over bank (atoms_in rules.now) (rules_in rules.now)) (record { sure = sure.entry.now; possible = possible.now }) result }
+    ensures { (bank : Meaning) → Tells (over bank (atoms_in rules.now) (rules_in rules.now)) (record { sure = sure.now; possible = possible.now }) result }
 {
     if first_beyond(sure, possible).is_some() || rules.bar_holds(sure, possible) {
         return Node::Refuted;

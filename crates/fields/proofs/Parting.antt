@@ -55,9 +55,9 @@ lines_step (b ∷ x ∷ xs) h = go (lines_step (x ∷ xs) (omega arith)) (eqb b 
         ap (onto b) ih ∙ rw (one, two)
 
 -- the first field, and those after it, where a comma parts them
-pub fields-step : (xs : List ℕ) → fields_of xs ≡ take (run 44 xs) xs ∷ cond (ltb (run 44 xs) (length xs)) (fields_of (drop (run 44 xs + 1) xs)) []
-fields-step [] = refl
-fields-step (b ∷ bs) = go (fields-step bs) (eqb b 44)
+pub fields_step : (xs : List ℕ) → fields_of xs ≡ take (run 44 xs) xs ∷ cond (ltb (run 44 xs) (length xs)) (fields_of (drop (run 44 xs + 1) xs)) []
+fields_step [] = refl
+fields_step (b ∷ bs) = go (fields_step bs) (eqb b 44)
   where
     go : fields_of bs ≡ take (run 44 bs) bs ∷ cond (ltb (run 44 bs) (length bs)) (fields_of (drop (run 44 bs + 1) bs)) [] → (t : Bool)
         → cond t ([] ∷ fields_of bs) (onto b (fields_of bs))
@@ -85,7 +85,7 @@ from_step at line h =
     (λ l. lt-ltb r (length xs) l ∙ sym (le-leb (at + r + 1) (length line) (omega arith)))
     (λ l. le-ltb r (length xs) l ∙ sym (lt-leb (at + r + 1) (length line) (omega arith)))
     (cases_lt r (length xs)) in
-    let first : fields_from at line ≡ placed at (take r xs ∷ cond (ltb r (length xs)) (fields_of (drop (r + 1) xs)) []) = rw t (ap (placed at) (fields-step xs)) in
+    let first : fields_from at line ≡ placed at (take r xs ∷ cond (ltb r (length xs)) (fields_of (drop (r + 1) xs)) []) = rw t (ap (placed at) (fields_step xs)) in
     first ∙ rw (long, same, d, a) (go (leb (at + r + 1) (length line)) (at + r + 1) (fields_of (drop (at + r + 1) line)) (record { bytes = take r xs; at = at }))
   where
     go : (t : Bool) (k : ℕ) (fs : List (List ℕ)) (f : Field) → f ∷ placed k (cond t fs []) ≡ f ∷ cond t (placed k fs) []
@@ -114,9 +114,9 @@ next_line at text bytes h e l =
     lines_step (drop at text) n ∙ rw (a, e, ← d)
 
 -- the same with what the line's part is known by another name
-pub opened-line : (at : ℕ) (text bytes line : List ℕ) → lines_of (drop at text) ≡ bytes ∷ lines_of (drop (at + length bytes + 1) text) → line ≡ bytes
+pub opened_line : (at : ℕ) (text bytes line : List ℕ) → lines_of (drop at text) ≡ bytes ∷ lines_of (drop (at + length bytes + 1) text) → line ≡ bytes
     → lines_of (drop at text) ≡ line ∷ lines_of (drop (at + (length bytes + 1)) text)
-opened-line at text bytes line e l =
+opened_line at text bytes line e l =
     let a : at + (length bytes + 1) ≡ at + length bytes + 1 = omega arith in
     rw (a, l) e
 

@@ -1,6 +1,6 @@
 //! The names that a text has declared so far, each a part of that text: the name at a place is that of the
 //! atom with that number. There is room for all 256 from the start, so that declaring never wants memory.
-ghost use Rattle.std.specs.Prelude.{◌≡◌, ◌<◌, ◌≤◌, [], ◌∷◌, ◌++◌, length, IfOk, if◌then◌else◌, vec_len, vec_capacity, nat_lt};
+ghost use Rattle.std.specs.Prelude.{◌≡◌, ◌≤◌, [], ◌∷◌, ◌++◌, length, IfOk, if◌then◌else◌, vec_len, vec_capacity, nat_lt};
 ghost use Rattle.fields.specs.Places.{place_of, parts, NameAt};
 
 use std::alloc::{AllocError, Global};

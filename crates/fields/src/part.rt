@@ -1,5 +1,5 @@
 //! Lines of a text and fields of a line, as parts of the caller's bytes with their offset.
-ghost use Rattle.std.specs.Prelude.{◌≡◌, ℕ, ◌+◌, ◌≤◌, [], ◌∷◌, length, take, drop, MatchOption, ◌≢◌};
+ghost use Rattle.std.specs.Prelude.{◌≡◌, ◌+◌, ◌≤◌, [], ◌∷◌, length, take, drop, MatchOption, ◌≢◌};
 ghost use Rattle.fields.specs.Pieces.{run, lines_of, fields_from};
 ghost use Rattle.fields.specs.Shown.{shown, left};
 

@@ -18,15 +18,15 @@ use Rattle.declarations.specs.Declaring.{Located, in_line, Declared, none_declar
 use Rattle.grammar.specs.Entering.{literals_of, laid, entered, entering, ruled}
 use Rattle.grammar.specs.Texts.{Described, described, on_sheet}
 use Rattle.grammar.specs.Format.{Named, Record, atom, row, line, bar, digits, literal_text, letter_text, letter, fields, line_text, unlines, commas, place, literal_named, with_record, meant_after, Known, AllKnown, Allowed, ValidAfter, RowsBelow, AcceptedIsRendered}
-use Rattle.grammar.proofs.Wording.{err_is_not_ok, then_ok, cond_ok, unless_ok, ok_or-ok, level-written, letter-written}
-use Rattle.grammar.proofs.Splitting.{commas-fields, unlines_lines}
+use Rattle.grammar.proofs.Wording.{err_is_not_ok, then_ok, cond_ok, unless_ok, ok_or_ok, level_written, letter_written}
+use Rattle.grammar.proofs.Splitting.{commas_fields, unlines_lines}
 use Rattle.grammar.proofs.Fitting.{Fitted, fitted_none, fitted_atom, fitted_row, laid_fits}
 use Rattle.grammar.proofs.Entering.{entered_fits, fits_below}
-use Rattle.grammar.proofs.Meanings.{known-ok, known_below, literals-written}
+use Rattle.grammar.proofs.Meanings.{known_ok, known_below, literals_written}
 
-pub in_line-ok : {X : Type 0} (n : ℕ) (r : Result X Refusal) (x : X) → in_line n r ≡ Ok x → r ≡ Ok x
-in_line-ok n (Ok y) x h = let same : y ≡ x = cc in ap Ok same
-in_line-ok n (Err e) x h = absurd (err_is_not_ok h)
+pub in_line_ok : {X : Type 0} (n : ℕ) (r : Result X Refusal) (x : X) → in_line n r ≡ Ok x → r ≡ Ok x
+in_line_ok n (Ok y) x h = let same : y ≡ x = cc in ap Ok same
+in_line_ok n (Err e) x h = absurd (err_is_not_ok h)
 
 pub from_start : (l : List ℕ) → fields_from 0 l ≡ placed 0 (fields_of l)
 from_start l = let t : leb 0 (length l) ≡ true = le-leb 0 (length l) (omega arith) in rw t
@@ -48,7 +48,7 @@ atom_written names k (f ∷ g ∷ []) a h =
     let r = then_ok (leveled level) make p.0 q.2 in
     let u = cond_ok (is_name f) (cond (is_some (place_of names f)) (Err (at_byte NameTwice k)) (Ok tt)) (at_byte MalformedName k) q.0 q.1 in
     let v = unless_ok (is_some (place_of names f)) (Ok tt) (at_byte NameTwice k) q.0 u.1 in
-    let w = level-written g r.0 (ok_or-ok (level_of g) (at_byte BadLevel (k + length f + 1)) r.0 r.1) in
+    let w = level_written g r.0 (ok_or_ok (level_of g) (at_byte BadLevel (k + length f + 1)) r.0 r.1) in
     let same : record { name = f; level = r.0 } ≡ a = let x = r.2 in let y = s.1 in cc in
     let P : AtomRecord → Type 0 = λ x. (f ∷ g ∷ [] ≡ x.name ∷ digits x.level ∷ []) × (is_name x.name ≡ true) × (is_some (place_of names x.name) ≡ false) × (x.level ≤ 15) × (length names < 256) in
     subst P same (ap (λ x. f ∷ x ∷ []) w.1, u.0, v.0, w.0, ltb-true (length names) 256 s.0)
@@ -68,9 +68,9 @@ row_written names k (f ∷ g ∷ i ∷ []) x h =
     let p = then_ok (known names first) (λ a. then (known names second) (λ b. then (known names out) (done a b))) x h in
     let q = then_ok (known names second) (λ b. then (known names out) (done p.0 b)) x p.2 in
     let s = then_ok (known names out) (done p.0 q.0) x q.2 in
-    let a = known-ok names first p.0 p.1 in
-    let b = known-ok names second q.0 q.1 in
-    let c = known-ok names out s.0 s.1 in
+    let a = known_ok names first p.0 p.1 in
+    let b = known_ok names second q.0 q.1 in
+    let c = known_ok names out s.0 s.1 in
     let same : record { row = record { one = p.0; other = q.0; to = s.0 }; out = out.at } ≡ x = let e = s.2 in cc in (
       f,
       g,
@@ -94,8 +94,8 @@ rule_written names k (f ∷ fs) x h =
     let make : ℕ → List Placed → Result LineRecord Refusal = λ a body. Ok (record { head = heads.Atom a; body = body }) in
     let p = then_ok (known names head) (λ a. then (literals names rest) (make a)) x h in
     let q = then_ok (literals names rest) (make p.0) x p.2 in
-    let a = known-ok names head p.0 p.1 in
-    let b = literals-written names (k + length f + 1) fs q.0 q.1 in
+    let a = known_ok names head p.0 p.1 in
+    let b = literals_written names (k + length f + 1) fs q.0 q.1 in
     let same : record { head = heads.Atom p.0; body = q.0 } ≡ x = let e = q.2 in cc in
     (f, b.0, ap (λ r. f ∷ r) b.1, a.0, b.2, sym (ap (λ l. l.head) same) ∙ ap heads.Atom a.1, sym (ap (λ l. literals_of l.body) same) ∙ b.3)
 
@@ -104,7 +104,7 @@ bar_written : (names : List (List ℕ)) (k : ℕ) (fs : List (List ℕ)) (x : Li
 bar_written names k fs x h =
     let make : List Placed → Result LineRecord Refusal = λ body. Ok (record { head = heads.Bar; body = body }) in
     let q = then_ok (literals names (placed k fs)) make x h in
-    let b = literals-written names k fs q.0 q.1 in
+    let b = literals_written names k fs q.0 q.1 in
     let same : record { head = heads.Bar; body = q.0 } ≡ x = let e = q.2 in cc in
     (b.0, b.1, b.2, sym (ap (λ l. l.head) same), sym (ap (λ l. literals_of l.body) same) ∙ b.3)
 
@@ -131,9 +131,9 @@ atom_declared d k fs more h fit =
       subst Fits same (fitted_atom d.names d.levels d.rows fit p.0.name p.0.level w.3 w.4),
     )
 
-row-declared : (d : Declared) (k : ℕ) (fs : List (List ℕ)) (more : Declared) → declaration Row d (placed k fs) ≡ Ok more → Fits d
+row_declared : (d : Declared) (k : ℕ) (fs : List (List ℕ)) (more : Declared) → declaration Row d (placed k fs) ≡ Ok more → Fits d
     → Behind Row fs (described d []) (described more []) × Fits more
-row-declared d k fs more h fit =
+row_declared d k fs more h fit =
     let p = then_ok (row_record d.names (placed k fs)) (room_for d) more h in
     let x = p.0 in
     let s = unless_ok (leb 64 (length d.rows)) (Ok (with_row d x)) (at_byte TableFull 0) more p.2 in
@@ -162,7 +162,7 @@ module _ (d : Declared) (rules : List RuleOf) (n : ℕ) (rule : RuleOf) where
   rule_entered k fs h =
       let p = then_ok (in_line n (line_record d.names (placed k fs))) (entered d rules n) rule h in
       let x = p.0 in
-      let w = rule_written d.names k fs x (in_line-ok n (line_record d.names (placed k fs)) x p.1) in
+      let w = rule_written d.names k fs x (in_line_ok n (line_record d.names (placed k fs)) x p.1) in
       let e = entered_fits d rules n x rule p.2 in
       let head = w.0 in
       let body = w.1 in
@@ -184,7 +184,7 @@ module _ (d : Declared) (rules : List RuleOf) (n : ℕ) (rule : RuleOf) where
   bar_entered k fs h =
       let p = then_ok (in_line n (bar_record d.names (placed k fs))) (entered d rules n) rule h in
       let x = p.0 in
-      let w = bar_written d.names k fs x (in_line-ok n (bar_record d.names (placed k fs)) x p.1) in
+      let w = bar_written d.names k fs x (in_line_ok n (bar_record d.names (placed k fs)) x p.1) in
       let e = entered_fits d rules n x rule p.2 in
       let body = w.0 in
       let long : length (literals_of x.body) ≡ length body = ap length w.4 ∙ length-map body (literal_named d.names) in
@@ -199,12 +199,12 @@ module _ (d : Declared) (rules : List RuleOf) (n : ℕ) (rule : RuleOf) where
         adds = ap (λ r. described d (rules ++ r ∷ [])) (sym whole);
       }
 
-  line-entered : (l : Letter) (k : ℕ) (fs : List (List ℕ)) → 2 ≤ rank_of l → entering d rules n l (placed k fs) ≡ Ok rule
+  line_entered : (l : Letter) (k : ℕ) (fs : List (List ℕ)) → 2 ≤ rank_of l → entering d rules n l (placed k fs) ≡ Ok rule
       → Behind l fs (described d rules) (described d (rules ++ rule ∷ []))
-  line-entered Atom k fs e h = absurd (omega arith)
-  line-entered Row k fs e h = absurd (omega arith)
-  line-entered Rule k fs e h = rule_entered k fs h
-  line-entered Bar k fs e h = bar_entered k fs h
+  line_entered Atom k fs e h = absurd (omega arith)
+  line_entered Row k fs e h = absurd (omega arith)
+  line_entered Rule k fs e h = rule_entered k fs h
+  line_entered Bar k fs e h = bar_entered k fs h
 
 -- THE LETTER OF A LINE
 
@@ -234,14 +234,14 @@ line_opens last l text h = go (fields_of text) refl (sym (ap (opening last) (fro
         record {
           rest = fs;
           at = 0 + length f + 1;
-          parts = e ∙ ap (λ x. x ∷ fs) (letter-written f l o.0);
+          parts = e ∙ ap (λ x. x ∷ fs) (letter_written f l o.0);
           left = ap tail (from_start text) ∙ ap (λ fs. tail (placed 0 fs)) e;
           ordered_so = o.1;
         }
 
-written-line : (last l : Letter) (text : List ℕ) (o : Opens last l text) (before after : Described) (b : Behind l o.rest before after) → text ≡ line_text b.by
-written-line last l text o before after b =
-    sym (commas-fields text) ∙ ap commas o.parts ∙ ap (λ fs. commas (letter_text l ∷ fs)) b.fielded ∙ ap (λ x. commas (letter_text x ∷ fields b.by)) b.lettered
+written_line : (last l : Letter) (text : List ℕ) (o : Opens last l text) (before after : Described) (b : Behind l o.rest before after) → text ≡ line_text b.by
+written_line last l text o before after b =
+    sym (commas_fields text) ∙ ap commas o.parts ∙ ap (λ fs. commas (letter_text l ∷ fs)) b.fielded ∙ ap (λ x. commas (letter_text x ∷ fields b.by)) b.lettered
 
 -- ONE RECORD MORE
 
@@ -273,19 +273,19 @@ declared_more : (d more : Declared) (last a : Letter) (l : List ℕ) (ls : List 
 declared_more d more last a l ls p o b r = record {
   by = b.by ∷ r.by;
   valid = joined_valid last a l o (described d []) (described more []) b r.by r.valid;
-  written = ap (λ x. x ∷ ls) (written-line last a l o (described d []) (described more []) b) ∙ ap (λ x. line_text b.by ∷ x) r.written;
+  written = ap (λ x. x ∷ ls) (written_line last a l o (described d []) (described more []) b) ∙ ap (λ x. line_text b.by ∷ x) r.written;
   means = r.means ∙ ap (λ x. meant_after x r.by) b.adds;
   fit = r.fit;
 }
 
-pub declared-written : (d : Declared) (last : Letter) (n : ℕ) (ls : List (List ℕ)) (p : Declarations) → declarations d last n ls ≡ Ok p → Fits d
+pub declared_written : (d : Declared) (last : Letter) (n : ℕ) (ls : List (List ℕ)) (p : Declarations) → declarations d last n ls ≡ Ok p → Fits d
     → DeclaredBy (described d []) last ls p
-declared-written d last n [] p h fit = let same : record { declared = d; line = n; rest = [] } ≡ p = cc in declared_none d last n [] p same fit
-declared-written d last n (l ∷ ls) p h fit =
+declared_written d last n [] p h fit = let same : record { declared = d; line = n; rest = [] } ≡ p = cc in declared_none d last n [] p same fit
+declared_written d last n (l ∷ ls) p h fit =
     let on : Letter → Result Declarations Located = λ a. cond (declares a) (then (in_line (n + 1) (declaration a d (tail (fields_from 0 l)))) (λ more. declarations more a (n + 1) ls)) (Ok (record { declared = d; line = n; rest = l ∷ ls })) in
     let q = then_ok (in_line (n + 1) (opening last (fields_from 0 l))) on p h in
-    let o = line_opens last q.0 l (in_line-ok (n + 1) (opening last (fields_from 0 l)) q.0 q.1) in
-    go q.0 o (λ more e f. declared-written more q.0 (n + 1) ls p e f) q.2
+    let o = line_opens last q.0 l (in_line_ok (n + 1) (opening last (fields_from 0 l)) q.0 q.1) in
+    go q.0 o (λ more e f. declared_written more q.0 (n + 1) ls p e f) q.2
   where
     stays : (a : Letter) → ◌≡◌ {A = Result Declarations Located} (Ok (record { declared = d; line = n; rest = l ∷ ls })) (Ok p) → DeclaredBy (described d []) last (l ∷ ls) p
     stays a h = let same : record { declared = d; line = n; rest = l ∷ ls } ≡ p = cc in declared_none d last n (l ∷ ls) p same fit
@@ -295,7 +295,7 @@ declared-written d last n (l ∷ ls) p h fit =
         → then (in_line (n + 1) (declaration a d (tail (fields_from 0 l)))) (λ more. declarations more a (n + 1) ls) ≡ Ok p → DeclaredBy (described d []) last (l ∷ ls) p
     steps a o one ih h =
         let q = then_ok (in_line (n + 1) (declaration a d (tail (fields_from 0 l)))) (λ more. declarations more a (n + 1) ls) p h in
-        let read = in_line-ok (n + 1) (declaration a d (tail (fields_from 0 l))) q.0 q.1 in
+        let read = in_line_ok (n + 1) (declaration a d (tail (fields_from 0 l))) q.0 q.1 in
         let b = one q.0 (sym (ap (declaration a d) o.left) ∙ read) in
         declared_more d q.0 last a l ls p o b.0 (ih q.0 q.2 b.1)
 
@@ -303,7 +303,7 @@ declared-written d last n (l ∷ ls) p h fit =
         → cond (declares a) (then (in_line (n + 1) (declaration a d (tail (fields_from 0 l)))) (λ more. declarations more a (n + 1) ls)) (Ok (record { declared = d; line = n; rest = l ∷ ls })) ≡ Ok p
         → DeclaredBy (described d []) last (l ∷ ls) p
     go Atom o ih h = steps Atom o (λ more e. atom_declared d o.at o.rest more e fit) ih h
-    go Row o ih h = steps Row o (λ more e. row-declared d o.at o.rest more e fit) ih h
+    go Row o ih h = steps Row o (λ more e. row_declared d o.at o.rest more e fit) ih h
     go Rule o ih h = stays Rule h
     go Bar o ih h = stays Bar h
 
@@ -321,20 +321,20 @@ top_rank Row = omega arith
 top_rank Rule = omega arith
 top_rank Bar = omega arith
 
-pub ruled-written : (d : Declared) (rules : List RuleOf) (n : ℕ) (ls : List (List ℕ)) (all : List RuleOf) → ruled d rules n ls ≡ Ok all
+pub ruled_written : (d : Declared) (rules : List RuleOf) (n : ℕ) (ls : List (List ℕ)) (all : List RuleOf) → ruled d rules n ls ≡ Ok all
     → RuledBy (described d rules) ls (described d all)
-ruled-written d rules n [] all h = let same : rules ≡ all = cc in record { by = []; valid = λ last. tt; written = refl; means = sym (ap (described d) same) }
-ruled-written d rules n (l ∷ ls) all h =
+ruled_written d rules n [] all h = let same : rules ≡ all = cc in record { by = []; valid = λ last. tt; written = refl; means = sym (ap (described d) same) }
+ruled_written d rules n (l ∷ ls) all h =
     let on : Letter → Result (List RuleOf) Located = λ a. then (entering d rules (n + 1) a (tail (fields_from 0 l))) (λ rule. ruled d (rules ++ rule ∷ []) (n + 1) ls) in
     let q = then_ok (in_line (n + 1) (opening Rule (fields_from 0 l))) on all h in
     let a = q.0 in
-    let o = line_opens Rule a l (in_line-ok (n + 1) (opening Rule (fields_from 0 l)) a q.1) in
+    let o = line_opens Rule a l (in_line_ok (n + 1) (opening Rule (fields_from 0 l)) a q.1) in
     let s = then_ok (entering d rules (n + 1) a (tail (fields_from 0 l))) (λ rule. ruled d (rules ++ rule ∷ []) (n + 1) ls) all q.2 in
     let rule = s.0 in
     let before = described d rules in
     let after = described d (rules ++ rule ∷ []) in
-    let b = line-entered d rules (n + 1) rule a o.at o.rest o.ordered_so (sym (ap (entering d rules (n + 1) a) o.left) ∙ s.1) in
-    let r = ruled-written d (rules ++ rule ∷ []) (n + 1) ls all s.2 in
+    let b = line_entered d rules (n + 1) rule a o.at o.rest o.ordered_so (sym (ap (entering d rules (n + 1) a) o.left) ∙ s.1) in
+    let r = ruled_written d (rules ++ rule ∷ []) (n + 1) ls all s.2 in
     record {
       by = b.by ∷ r.by;
       valid = λ last.
@@ -342,7 +342,7 @@ ruled-written d rules n (l ∷ ls) all h =
           let high = o.ordered_so in
           let o' : Opens last a l = record { rest = o.rest; at = o.at; parts = o.parts; left = o.left; ordered_so = omega arith } in
           joined_valid last a l o' before after b r.by (r.valid a);
-      written = ap (λ x. x ∷ ls) (written-line Rule a l o before after b) ∙ ap (λ x. line_text b.by ∷ x) r.written;
+      written = ap (λ x. x ∷ ls) (written_line Rule a l o before after b) ∙ ap (λ x. line_text b.by ∷ x) r.written;
       means = r.means ∙ ap (λ x. meant_after x r.by) b.adds;
     }
 
@@ -367,8 +367,8 @@ accepted_is_rendered text d h =
     let make : List RuleOf → Result Described Located = λ rules. Ok (described dd rules) in
     let r = then_ok (laid dd) (λ _. then (ruled dd [] ds.line ds.rest) make) d q.2 in
     let s = then_ok (ruled dd [] ds.line ds.rest) make d r.2 in
-    let one = declared-written none_declared Atom 0 (lines_of text) ds q.1 fitted_none in
-    let two = ruled-written dd [] ds.line ds.rest s.0 s.1 in
+    let one = declared_written none_declared Atom 0 (lines_of text) ds q.1 fitted_none in
+    let two = ruled_written dd [] ds.line ds.rest s.0 s.1 in
     let laid_so = laid_fits dd.names dd.levels dd.rows dd.outs one.fit r.1 in
     let rs = one.by ++ two.by in
     let before = described none_declared [] in

@@ -12,7 +12,7 @@ use Rattle.records.specs.Reading.{then, LineRecord}
 use Rattle.declarations.specs.Declaring.{Declared}
 use Rattle.grammar.specs.Entering.{placing, literals_of, enter_place, entered}
 use Rattle.grammar.specs.Format.{BodyBelow}
-use Rattle.grammar.proofs.Fitting.{placed-ok}
+use Rattle.grammar.proofs.Fitting.{placed_ok}
 use Rattle.grammar.proofs.Wording.{then_ok}
 
 -- every literal is the sheet's, and none is above the head
@@ -68,7 +68,7 @@ module _ (d : Declared) (rules : List Rule) (n : ℕ) (l : LineRecord) where
       let state = anew (pair_table d.rows) d.levels rules in
       let o = fault state (enter l.head body) in
       let p = then_ok (placing o (enter_place n l.body)) (λ _. Ok (line l.head body)) rule e in
-      let none = placed-ok o (enter_place n l.body) p.1 in
+      let none = placed_ok o (enter_place n l.body) p.1 in
       let w = passes state (enter l.head body) none in
       let six = test_fails 6 0 (leb 512 (length rules)) w.1.0 in
       let eight = test_fails 8 0 (ltb 8 (length body)) w.1.1.1.0 in

@@ -25,9 +25,9 @@ pub record Fitted (names : List (List ℕ)) (levels : List ℕ) (rows : List Pai
 -- PLACING
 
 -- nothing is placed where there is no fault, and only there
-pub placed-ok : (o : Option Fault) (place : Fault → Located) → placing o place ≡ Ok tt → o ≡ None
-placed-ok None place e = refl
-placed-ok (Some f) place e = let z : ◌≡◌ {A = ℕ} 0 1 = cc in absurd (omega arith)
+pub placed_ok : (o : Option Fault) (place : Fault → Located) → placing o place ≡ Ok tt → o ≡ None
+placed_ok None place e = refl
+placed_ok (Some f) place e = let z : ◌≡◌ {A = ℕ} 0 1 = cc in absurd (omega arith)
 
 -- LOOKING THROUGH
 
@@ -158,7 +158,7 @@ module _ (names : List (List ℕ)) (levels : List ℕ) (rows : List PairRow) (ou
   pub laid_fits : laid_with rows levels outs ≡ Ok tt → (0 < length levels) × RowsBelow levels rows
   laid_fits e =
       let bank = pair_table rows in
-      let none = placed-ok (fault (blank bank) (lay levels)) (lay_place (length levels) outs) e in
+      let none = placed_ok (fault (blank bank) (lay levels)) (lay_place (length levels) outs) e in
       let w = passes (blank bank) (lay levels) none in
       let two = or_false (eqb (length levels) 0) (ltb 256 (length levels)) (test_fails 2 0 (eqb (length levels) 0 || ltb 256 (length levels)) w.0) in
       let some : length levels ≡ 0 → ⊥ = eqb-false (length levels) 0 two.0 in

@@ -12,7 +12,7 @@ use Rattle.records.specs.declared.refusal.Refusal.{Refusal}
 use Rattle.records.specs.Reading.{then, at_byte, known, literal_in, literals}
 use Rattle.grammar.specs.Entering.{literals_of}
 use Rattle.grammar.specs.Format.{Named, literal_text, place, literal_named, Known, AllKnown}
-use Rattle.grammar.proofs.Wording.{then_ok, cond_ok, ok_or-ok, some_of, literal_written, name_read, side_read}
+use Rattle.grammar.proofs.Wording.{then_ok, cond_ok, ok_or_ok, some_of, literal_written, name_read, side_read}
 use Rattle.grammar.proofs.Entering.{LiteralsFit}
 
 -- PLACES
@@ -24,8 +24,8 @@ at_place (Some b) a e = let same : b ≡ a = cc in same
 pub placed_at : (names : List (List ℕ)) (name : List ℕ) (a : ℕ) → place_of names name ≡ Some a → place names name ≡ a
 placed_at names name a e = at_place (place_of names name) a e
 
-pub known-place : (names : List (List ℕ)) (name : List ℕ) → Known names name → place_of names name ≡ Some (place names name)
-known-place names name k = let s = some_of (place_of names name) k.1 in s.1 ∙ ap Some (sym (placed_at names name s.0 s.1))
+pub known_place : (names : List (List ℕ)) (name : List ℕ) → Known names name → place_of names name ≡ Some (place names name)
+known_place names name k = let s = some_of (place_of names name) k.1 in s.1 ∙ ap Some (sym (placed_at names name s.0 s.1))
 
 place_below : (k : ℕ) (names : List (List ℕ)) (name : List ℕ) (a : ℕ) → place_from k names name ≡ Some a → a < k + length names
 place_below k [] name a e = let z : ◌≡◌ {A = ℕ} 0 1 = cc in absurd (omega arith)
@@ -36,20 +36,20 @@ place_below k (other ∷ names) name a e = go (bytes_eq other name) e (place_bel
     go false e ih = let h = ih e in omega arith
 
 pub known_below : (names : List (List ℕ)) (name : List ℕ) → Known names name → place names name < length names
-known_below names name k = let h = place_below 0 names name (place names name) (known-place names name k) in omega arith
+known_below names name k = let h = place_below 0 names name (place names name) (known_place names name k) in omega arith
 
 -- A NAME
 
-pub known-ok : (names : List (List ℕ)) (f : Field) (a : ℕ) → known names f ≡ Ok a → Known names f.bytes × (a ≡ place names f.bytes)
-known-ok names f a h =
+pub known_ok : (names : List (List ℕ)) (f : Field) (a : ℕ) → known names f ≡ Ok a → Known names f.bytes × (a ≡ place names f.bytes)
+known_ok names f a h =
     let p = cond_ok (is_name f.bytes) (ok_or (place_of names f.bytes) (at_byte UnknownName f.at)) (at_byte MalformedName f.at) a h in
-    let s = ok_or-ok (place_of names f.bytes) (at_byte UnknownName f.at) a p.1 in
+    let s = ok_or_ok (place_of names f.bytes) (at_byte UnknownName f.at) a p.1 in
     ((p.0, ap is_some s), sym (placed_at names f.bytes a s))
 
 pub known_read : (names : List (List ℕ)) (f : Field) → Known names f.bytes → known names f ≡ Ok (place names f.bytes)
 known_read names f k =
     ap (λ t. cond t (ok_or (place_of names f.bytes) (at_byte UnknownName f.at)) (Err (at_byte MalformedName f.at))) k.0
-    ∙ ap (λ o. ok_or o (at_byte UnknownName f.at)) (known-place names f.bytes k)
+    ∙ ap (λ o. ok_or o (at_byte UnknownName f.at)) (known_place names f.bytes k)
 
 -- LITERALS
 
@@ -59,19 +59,19 @@ made f k a = Ok (record { literal = record { atom = a; side = side_of f }; byte 
 abbrev added : List (List ℕ) → List Field → Placed → Result (List Placed) Refusal
 added names rest l = then (literals names rest) (λ ls. Ok (l ∷ ls))
 
-pub literals-written : (names : List (List ℕ)) (k : ℕ) (fs : List (List ℕ)) (all : List Placed) → literals names (placed k fs) ≡ Ok all
+pub literals_written : (names : List (List ℕ)) (k : ℕ) (fs : List (List ℕ)) (all : List Placed) → literals names (placed k fs) ≡ Ok all
     → (body : List Named) × (fs ≡ map literal_text body) × AllKnown names body × (literals_of all ≡ map (literal_named names) body)
-literals-written names k [] all h = let none : [] ≡ all = cc in ([], refl, tt, sym (ap literals_of none))
-literals-written names k (f ∷ fs) all h =
+literals_written names k [] all h = let none : [] ≡ all = cc in ([], refl, tt, sym (ap literals_of none))
+literals_written names k (f ∷ fs) all h =
     let bare : Field = record { bytes = name_of f; at = k } in
     let rest = placed (k + length f + 1) fs in
     let p = then_ok (literal_in names (record { bytes = f; at = k })) (added names rest) all h in
     let l : Placed = p.0 in
     let q = then_ok (literals names rest) (λ ls. Ok (l ∷ ls)) all p.2 in
     let r = then_ok (known names bare) (made f k) l p.1 in
-    let is_known = known-ok names bare r.0 r.1 in
+    let is_known = known_ok names bare r.0 r.1 in
     let named : Named = record { side = side_of f; name = name_of f } in
-    let ih = literals-written names (k + length f + 1) fs q.0 q.1 in
+    let ih = literals_written names (k + length f + 1) fs q.0 q.1 in
     let whole : l ∷ q.0 ≡ all = let e = q.2 in cc in
     let here : record { literal = record { atom = r.0; side = side_of f }; byte = k } ≡ l = let e = r.2 in cc in
     let atom : literal_named names named ≡ l.literal = ap (λ a. record { atom = a; side = side_of f }) (sym is_known.1) ∙ ap (λ x. x.literal) here in (

@@ -22,7 +22,7 @@ use Rattle.grammar.specs.Entering.{literals_of, laid, entered, entering, ruled}
 use Rattle.grammar.specs.Texts.{Described, described, on_sheet}
 use Rattle.grammar.specs.Format.{Named, Record, atom, row, line, bar, digits, literal_text, letter_text, letter, fields, line_text, rendered, place, literal_named, with_record, meant_after, meant, Known, AllKnown, Allowed, ValidAfter, RowsBelow, RenderedIsAccepted}
 use Rattle.grammar.proofs.Wording.{level_read, letter_read, name_free, literal_free, digits_free}
-use Rattle.grammar.proofs.Splitting.{free, AllFree, fields-commas, commas_free, lines_front, ended-unlines}
+use Rattle.grammar.proofs.Splitting.{free, AllFree, fields_commas, commas_free, lines_front, ended_unlines}
 use Rattle.grammar.proofs.Fitting.{fitted_none, fitted_atom, fitted_row, fit_laid}
 use Rattle.grammar.proofs.Entering.{LiteralsFit, fit_entered, below_fits}
 use Rattle.grammar.proofs.Meanings.{known_read, known_below, literals_read, known_fit}
@@ -55,7 +55,7 @@ no_end Bar = refl
 
 fields_back : (d : Described) (r : Record) → Allowed d r → fields_from 0 (line_text r) ≡ placed 0 (letter_text (letter r) ∷ fields r)
 fields_back d r h =
-    from_start (line_text r) ∙ ap (placed 0) (fields-commas (letter_text (letter r)) (fields r) (no_comma (letter r), fields_free 44 d r (omega arith) h))
+    from_start (line_text r) ∙ ap (placed 0) (fields_commas (letter_text (letter r)) (fields r) (no_comma (letter r), fields_free 44 d r (omega arith) h))
 
 pub lines_back : (d : Described) (last : Letter) (rs : List Record) → ValidAfter d last rs → lines_of (rendered rs) ≡ map line_text rs
 lines_back d last [] h = refl
@@ -305,7 +305,7 @@ lines_keep x last (bar body ∷ rs) two v = lines_keep (with_record x (bar body)
 pub rendered_is_accepted : RenderedIsAccepted
 rendered_is_accepted rs valid short =
     let text = rendered rs in
-    let w : is_whole text ≡ true = and_from (leb (length text) 65536) (ended text) (le-leb (length text) 65536 short) (ended-unlines (map line_text rs)) in
+    let w : is_whole text ≡ true = and_from (leb (length text) 65536) (ended text) (le-leb (length text) 65536 short) (ended_unlines (map line_text rs)) in
     let one = declared_read none_declared Atom 0 rs valid.0 fitted_none in
     let p = one.to in
     let d = p.declared in

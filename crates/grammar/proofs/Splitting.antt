@@ -4,7 +4,7 @@ use Rattle.std.proofs.lemmas.Bool.{eqb-true, and_parts, not-true}
 use Rattle.fields.specs.Pieces.{onto, lines_of, fields_of}
 use Rattle.declarations.specs.Whole.{ended}
 use Rattle.grammar.specs.Format.{commas, unlines}
-use Rattle.fields.proofs.Parting.{fields-step}
+use Rattle.fields.proofs.Parting.{fields_step}
 
 -- the byte c does not occur
 abbrev pub free : ℕ → List ℕ → Bool
@@ -39,17 +39,17 @@ commas_on : (b : ℕ) (f : List ℕ) (fs : List (List ℕ)) → commas (onto b (
 commas_on b f [] = refl
 commas_on b f (g ∷ fs) = refl
 
-commas-fields-step : (b : ℕ) (bs : List ℕ) (f : List ℕ) (fs : List (List ℕ)) (t : Bool) → eqb b 44 ≡ t → commas (f ∷ fs) ≡ bs
+commas_fields_step : (b : ℕ) (bs : List ℕ) (f : List ℕ) (fs : List (List ℕ)) (t : Bool) → eqb b 44 ≡ t → commas (f ∷ fs) ≡ bs
     → commas (cond t ([] ∷ f ∷ fs) (onto b (f ∷ fs))) ≡ b ∷ bs
-commas-fields-step b bs f fs true e ih = ap (λ r. 44 ∷ r) ih ∙ ap (λ k. k ∷ bs) (sym (eqb-true b 44 e))
-commas-fields-step b bs f fs false e ih = commas_on b f fs ∙ ap (λ r. b ∷ r) ih
+commas_fields_step b bs f fs true e ih = ap (λ r. 44 ∷ r) ih ∙ ap (λ k. k ∷ bs) (sym (eqb-true b 44 e))
+commas_fields_step b bs f fs false e ih = commas_on b f fs ∙ ap (λ r. b ∷ r) ih
 
-pub commas-fields : (l : List ℕ) → commas (fields_of l) ≡ l
-commas-fields [] = refl
-commas-fields (b ∷ bs) =
-    let s = fields-step bs in
+pub commas_fields : (l : List ℕ) → commas (fields_of l) ≡ l
+commas_fields [] = refl
+commas_fields (b ∷ bs) =
+    let s = fields_step bs in
     ap (λ fs. commas (cond (eqb b 44) ([] ∷ fs) (onto b fs))) s
-    ∙ commas-fields-step b bs _ _ (eqb b 44) refl (sym (ap commas s) ∙ commas-fields bs)
+    ∙ commas_fields_step b bs _ _ (eqb b 44) refl (sym (ap commas s) ∙ commas_fields bs)
 
 -- fields that hold no comma are found again
 pub field_alone : (f : List ℕ) → free 44 f ≡ true → fields_of f ≡ f ∷ []
@@ -71,9 +71,9 @@ abbrev pub AllFree : ℕ → List (List ℕ) → Type 0
 AllFree c [] = Unit {0}
 AllFree c (f ∷ fs) = (free c f ≡ true) × AllFree c fs
 
-pub fields-commas : (f : List ℕ) (fs : List (List ℕ)) → AllFree 44 (f ∷ fs) → fields_of (commas (f ∷ fs)) ≡ f ∷ fs
-fields-commas f [] h = field_alone f h.0
-fields-commas f (g ∷ fs) h = field_front f (commas (g ∷ fs)) h.0 ∙ ap (λ r. f ∷ r) (fields-commas g fs h.1)
+pub fields_commas : (f : List ℕ) (fs : List (List ℕ)) → AllFree 44 (f ∷ fs) → fields_of (commas (f ∷ fs)) ≡ f ∷ fs
+fields_commas f [] h = field_alone f h.0
+fields_commas f (g ∷ fs) h = field_front f (commas (g ∷ fs)) h.0 ∙ ap (λ r. f ∷ r) (fields_commas g fs h.1)
 
 pub free_append : (c : ℕ) (xs ys : List ℕ) → free c xs ≡ true → free c ys ≡ true → free c (xs ++ ys) ≡ true
 free_append c [] ys h k = k
@@ -86,9 +86,9 @@ pub commas_free : (f : List ℕ) (fs : List (List ℕ)) → AllFree 10 (f ∷ fs
 commas_free f [] h = h.0
 commas_free f (g ∷ fs) h = free_append 10 f (44 ∷ commas (g ∷ fs)) h.0 (commas_free g fs h.1)
 
-pub ended-unlines : (ls : List (List ℕ)) → ended (unlines ls) ≡ true
-ended-unlines [] = refl
-ended-unlines (l ∷ ls) = go l (unlines ls) (ended-unlines ls)
+pub ended_unlines : (ls : List (List ℕ)) → ended (unlines ls) ≡ true
+ended_unlines [] = refl
+ended_unlines (l ∷ ls) = go l (unlines ls) (ended_unlines ls)
   where
     on : (rest : List ℕ) → ended rest ≡ true → ended (10 ∷ rest) ≡ true
     on [] h = refl

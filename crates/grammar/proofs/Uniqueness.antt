@@ -7,7 +7,7 @@ use Rattle.fields.specs.Words.{is_name, level_of, side_of, name_of}
 use Rattle.grammar.specs.Texts.{Described}
 use Rattle.grammar.specs.Format.{Named, Record, atom, row, line, bar, digits, literal_text, letter_text, letter, fields, line_text, AllKnown, Allowed, with_record, none_described, ValidAfter, ReadingsAreOne}
 use Rattle.grammar.proofs.Wording.{level_read, name_read, side_read}
-use Rattle.grammar.proofs.Splitting.{fields-commas}
+use Rattle.grammar.proofs.Splitting.{fields_commas}
 use Rattle.grammar.proofs.Rendering.{no_comma, fields_free, lines_back}
 
 same_named : (a b : Named) → is_name a.name ≡ true → is_name b.name ≡ true → literal_text a ≡ literal_text b → a ≡ b
@@ -60,7 +60,7 @@ same_record x y (bar body) (bar b') h k e =
     ap bar (same_body x.names y.names body b' h.0 k.0 texts)
 
 fields_again : (x : Described) (r : Record) → Allowed x r → fields_of (line_text r) ≡ letter_text (letter r) ∷ fields r
-fields_again x r h = fields-commas (letter_text (letter r)) (fields r) (no_comma (letter r), fields_free 44 x r (omega arith) h)
+fields_again x r h = fields_commas (letter_text (letter r)) (fields r) (no_comma (letter r), fields_free 44 x r (omega arith) h)
 
 same_records : (x y : Described) (last last' : Letter) (rs ss : List Record) → ValidAfter x last rs → ValidAfter y last' ss → map line_text rs ≡ map line_text ss → rs ≡ ss
 same_records x y last last' [] [] h k e = refl

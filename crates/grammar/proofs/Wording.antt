@@ -28,9 +28,9 @@ pub unless_ok : {X E : Type 0} (t : Bool) (r : Result X E) (e : E) (x : X) → c
 unless_ok true r e x h = absurd (err_is_not_ok h)
 unless_ok false r e x h = (refl, h)
 
-pub ok_or-ok : {X E : Type 0} (o : Option X) (e : E) (x : X) → ok_or o e ≡ Ok x → o ≡ Some x
-ok_or-ok None e x h = absurd (err_is_not_ok h)
-ok_or-ok (Some y) e x h = let same : y ≡ x = cc in ap Some same
+pub ok_or_ok : {X E : Type 0} (o : Option X) (e : E) (x : X) → ok_or o e ≡ Ok x → o ≡ Some x
+ok_or_ok None e x h = absurd (err_is_not_ok h)
+ok_or_ok (Some y) e x h = let same : y ≡ x = cc in ap Some same
 
 pub some_of : {X : Type 0} (o : Option X) → is_some o ≡ true → (x : X) × (o ≡ Some x)
 some_of None h = absurd (false≢true h)
@@ -51,9 +51,9 @@ letter_read Row = refl
 letter_read Rule = refl
 letter_read Bar = refl
 
-pub letter-written : (f : List ℕ) (l : Letter) → letter_of f ≡ Some l → f ≡ letter_text l
-letter-written [] l h = let z : ◌≡◌ {A = ℕ} 0 1 = cc in absurd (omega arith)
-letter-written (b ∷ []) l h = first (eqb b 97) refl h
+pub letter_written : (f : List ℕ) (l : Letter) → letter_of f ≡ Some l → f ≡ letter_text l
+letter_written [] l h = let z : ◌≡◌ {A = ℕ} 0 1 = cc in absurd (omega arith)
+letter_written (b ∷ []) l h = first (eqb b 97) refl h
   where
     at : (c : ℕ) (m : Letter) → eqb b c ≡ true → c ∷ [] ≡ letter_text m → Some m ≡ Some l → b ∷ [] ≡ letter_text l
     at c m e t s = let same : m ≡ l = cc in ap (λ k. k ∷ []) (eqb-true b c e) ∙ t ∙ ap letter_text same
@@ -73,7 +73,7 @@ letter-written (b ∷ []) l h = first (eqb b 97) refl h
     first : (t : Bool) → eqb b 97 ≡ t → cond t (Some Atom) (cond (eqb b 112) (Some Row) (cond (eqb b 114) (Some Rule) (cond (eqb b 98) (Some Bar) None))) ≡ Some l → b ∷ [] ≡ letter_text l
     first true e h = at 97 Atom e refl h
     first false e h = second (eqb b 112) refl h
-letter-written (b ∷ c ∷ bs) l h = let z : ◌≡◌ {A = ℕ} 0 1 = cc in absurd (omega arith)
+letter_written (b ∷ c ∷ bs) l h = let z : ◌≡◌ {A = ℕ} 0 1 = cc in absurd (omega arith)
 
 -- LEVELS
 
@@ -98,15 +98,15 @@ digit_read top tens b k h =
     let q = and_parts (leb 48 b) (leb b top) p.0 in
     (leb-true 48 b q.0, leb-true b top q.1, some_same (b - 48 + tens) k p.1)
 
-pub level-written : (bs : List ℕ) (k : ℕ) → level_of bs ≡ Some k → (k ≤ 15) × (bs ≡ digits k)
-level-written [] k h = let z : ◌≡◌ {A = ℕ} 0 1 = cc in absurd (omega arith)
-level-written (b ∷ []) k h =
+pub level_written : (bs : List ℕ) (k : ℕ) → level_of bs ≡ Some k → (k ≤ 15) × (bs ≡ digits k)
+level_written [] k h = let z : ◌≡◌ {A = ℕ} 0 1 = cc in absurd (omega arith)
+level_written (b ∷ []) k h =
     let p = digit_read 57 0 b k h in
     let l : k < 10 = omega (arith, p.0, p.1, p.2) in
     let t : ltb k 10 ≡ true = lt-ltb k 10 l in
     let e : b ≡ 48 + k = omega (arith, p.0, p.1, p.2) in
     (omega arith, rw t (ap (λ x. x ∷ []) e))
-level-written (b ∷ c ∷ []) k h =
+level_written (b ∷ c ∷ []) k h =
     let q = cond_some (eqb b 49) (digit_up_to 53 10 c) k h in
     let p = digit_read 53 10 c k q.1 in
     let l : 10 ≤ k = omega (arith, p.0, p.1, p.2) in
@@ -114,7 +114,7 @@ level-written (b ∷ c ∷ []) k h =
     let t : ltb k 10 ≡ false = le-ltb k 10 l in
     let e : c ≡ 38 + k = omega (arith, p.0, p.1, p.2) in
     (m, rw t (ap (λ x. x ∷ c ∷ []) (eqb-true b 49 q.0) ∙ ap (λ x. 49 ∷ x ∷ []) e))
-level-written (b ∷ c ∷ d ∷ bs) k h = let z : ◌≡◌ {A = ℕ} 0 1 = cc in absurd (omega arith)
+level_written (b ∷ c ∷ d ∷ bs) k h = let z : ◌≡◌ {A = ℕ} 0 1 = cc in absurd (omega arith)
 
 -- LITERALS
 

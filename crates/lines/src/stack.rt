@@ -1,7 +1,7 @@
 // A stack of pending entries over a slice that the caller lends.
 //
 // The slice is the room; the entries on the stack are its first `len` elements, the newest last.
-ghost use Rattle.std.specs.Prelude.{◌≡◌, ◌+◌, ◌-◌, ◌<◌, ◌≤◌, [], ◌∷◌, ◌++◌, length, take, is_some, nat_le, nat_lt};
+ghost use Rattle.std.specs.Prelude.{◌≡◌, ◌+◌, ◌<◌, ◌≤◌, [], ◌∷◌, ◌++◌, length, take, is_some, nat_le, nat_lt};
 ghost use Rattle.std.specs.Option.{option_to_list};
 
 #[derive(Drop)]

@@ -1,9 +1,9 @@
 // A pair table: up to 64 rows, each of which gives an atom where two others are both present.
-ghost use Rattle.std.specs.Prelude.{◌≡◌, ◌&&◌, ◌||◌, [], ◌∷◌, ◌++◌, ◌==◌};
+ghost use Rattle.std.specs.Prelude.{◌≡◌, ◌&&◌, ◌||◌, [], ◌==◌};
 ghost use Rattle.semantics.specs.Sets.{has};
 ghost use Rattle.semantics.specs.Modules.{pair_table};
 ghost use Rattle.modules.specs.Tables.{rows_of, RowPushed, RowAt};
-ghost use Rattle.modules.specs.Entries.{table_keeps_the_law};
+ghost use Rattle.modules.specs.TableLaw.{pair_table_lawful};
 
 use crate::query::Module;
 use crate::rows::{Pair, PairTable};
@@ -68,7 +68,7 @@ fn row_at(table: &PairTable, position: u16) -> Option<Pair>
 impl Module for PairTable {
     ghost meaning = { λ t. pair_table (rows_of t) };
 
-    ghost lawful = { table_keeps_the_law };
+    ghost lawful = { pair_table_lawful };
 
     fn outputs(&self) -> u16 {
         self.rows.len() as u16

@@ -33,10 +33,10 @@ gathered_more kept l (Err refusal) = refl
 
 -- LITERALS WITH THEIR BYTES
 
-pub placed-literals : (ls : List Literal) (bs : List ℕ) → length ls ≡ length bs → map (λ l. l.literal) (placed_at ls bs) ≡ ls
-placed-literals [] bs h = refl
-placed-literals (l ∷ ls) [] h = absurd (omega arith)
-placed-literals (l ∷ ls) (b ∷ bs) h = ap (λ r. l ∷ r) (placed-literals ls bs (omega arith))
+pub placed_literals : (ls : List Literal) (bs : List ℕ) → length ls ≡ length bs → map (λ l. l.literal) (placed_at ls bs) ≡ ls
+placed_literals [] bs h = refl
+placed_literals (l ∷ ls) [] h = absurd (omega arith)
+placed_literals (l ∷ ls) (b ∷ bs) h = ap (λ r. l ∷ r) (placed_literals ls bs (omega arith))
 
 pub placed_bytes : (ls : List Literal) (bs : List ℕ) → length ls ≡ length bs → map (λ l. l.byte) (placed_at ls bs) ≡ bs
 placed_bytes [] [] h = refl
@@ -52,7 +52,7 @@ placed_push (l ∷ ls) [] p h = absurd (omega arith)
 placed_push (l ∷ ls) (b ∷ bs) p h = ap (λ r. record { literal = l; byte = b } ∷ r) (placed_push ls bs p (omega arith))
 
 pub placed_long : (ls : List Literal) (bs : List ℕ) → length ls ≡ length bs → length (placed_at ls bs) ≡ length ls
-placed_long ls bs h = sym (length-map (placed_at ls bs) (λ l. l.literal)) ∙ ap length (placed-literals ls bs h)
+placed_long ls bs h = sym (length-map (placed_at ls bs) (λ l. l.literal)) ∙ ap length (placed_literals ls bs h)
 
 -- the first n of both
 pub same_cut : (ls : List Literal) (bs : List ℕ) (n : ℕ) → n ≤ length ls → n ≤ length bs → length (take n ls) ≡ length (take n bs)

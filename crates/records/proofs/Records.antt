@@ -58,12 +58,12 @@ module _ (names : List (List ℕ)) (fs : List Field) (name level : Field) (e : f
 
 -- ROWS
 
-pub row-miscounted : (names : List (List ℕ)) (fs : List Field) → (length fs ≡ 3 → ⊥) → miscounted ≡ row_record names fs
-row-miscounted names [] h = refl
-row-miscounted names (f ∷ []) h = refl
-row-miscounted names (f ∷ g ∷ []) h = refl
-row-miscounted names (f ∷ g ∷ i ∷ []) h = absurd (h refl)
-row-miscounted names (f ∷ g ∷ i ∷ j ∷ fs) h = refl
+pub row_miscounted : (names : List (List ℕ)) (fs : List Field) → (length fs ≡ 3 → ⊥) → miscounted ≡ row_record names fs
+row_miscounted names [] h = refl
+row_miscounted names (f ∷ []) h = refl
+row_miscounted names (f ∷ g ∷ []) h = refl
+row_miscounted names (f ∷ g ∷ i ∷ []) h = absurd (h refl)
+row_miscounted names (f ∷ g ∷ i ∷ j ∷ fs) h = refl
 
 module _ (names : List (List ℕ)) (fs : List Field) (first second out : Field) (e : fs ≡ first ∷ second ∷ out ∷ []) where
   abbrev third : ℕ → ℕ → ℕ → Result RowRecord Refusal
@@ -92,8 +92,8 @@ module _ (names : List (List ℕ)) (fs : List Field) (first second out : Field) 
       pub row_third : (x : Refusal) → Err x ≡ known names out → Err x ≡ row_record names fs
       row_third x h = by_out (Err x) h
 
-      pub row-accepted : (c : ℕ) → Ok c ≡ known names out → third a b c ≡ row_record names fs
-      row-accepted c h = by_out (Ok c) h
+      pub row_accepted : (c : ℕ) → Ok c ≡ known names out → third a b c ≡ row_record names fs
+      row_accepted c h = by_out (Ok c) h
 
 -- LINES AND BARS
 

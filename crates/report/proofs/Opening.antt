@@ -20,9 +20,9 @@ cond_ok : {Y E : Type 0} (b : Bool) (r : Result Y E) (e : E) (y : Y) → cond b 
 cond_ok true r e y h = h
 cond_ok false r e y h = absurd (let z : ◌≡◌ {A = ℕ} 0 1 = cc in omega arith)
 
-placing-ok : (o : Option Fault) (place : Fault → Located) → placing o place ≡ Ok tt → o ≡ None
-placing-ok None place e = refl
-placing-ok (Some f) place e = absurd (let z : ◌≡◌ {A = ℕ} 0 1 = cc in omega arith)
+placing_ok : (o : Option Fault) (place : Fault → Located) → placing o place ≡ Ok tt → o ≡ None
+placing_ok None place e = refl
+placing_ok (Some f) place e = absurd (let z : ◌≡◌ {A = ℕ} 0 1 = cc in omega arith)
 
 -- no atoms are refused first
 first_none : (b c : Bool) (rest : Option Fault) → or_else (fault_if 2 (b || c)) rest ≡ None → b ≡ false
@@ -39,5 +39,5 @@ some_atom text d e =
     let laying = then_ok (laid p.declared) _ d declared.2 in
     let entering = then_ok (ruled p.declared [] p.line p.rest) (λ rules. Ok (described p.declared rules)) d laying.2 in
     let is : described p.declared entering.0 ≡ d = cc in
-    let some = laid_some p.declared.rows p.declared.levels (placing-ok _ _ laying.1) in
+    let some = laid_some p.declared.rows p.declared.levels (placing_ok _ _ laying.1) in
     omega (arith, ap (λ x. length x.levels) is)

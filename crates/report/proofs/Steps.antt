@@ -59,31 +59,31 @@ full_or_running true = refl
 full_or_running false = refl
 
 -- only one fault has this number
-full-fault : (f : Fault) → number_of f ≡ 13 → f ≡ ListingFull
-full-fault Memory e = absurd (omega arith)
-full-fault NeverLaid e = absurd (omega arith)
-full-fault LevelCount e = absurd (omega arith)
-full-fault (LevelTooHigh a) e = absurd (omega arith)
-full-fault (OutputOutOfRange a) e = absurd (omega arith)
-full-fault (ReadsTooHigh a) e = absurd (omega arith)
-full-fault TooManyLines e = absurd (omega arith)
-full-fault HeadOutOfRange e = absurd (omega arith)
-full-fault TooManyLiterals e = absurd (omega arith)
-full-fault (LiteralOutOfRange a) e = absurd (omega arith)
-full-fault (LiteralAboveHead a) e = absurd (omega arith)
-full-fault WrongBuffer e = absurd (omega arith)
-full-fault ListingFull e = refl
-full-fault NoSuchAtom e = absurd (omega arith)
-full-fault NotEnded e = absurd (omega arith)
-full-fault TableFull e = absurd (omega arith)
-full-fault UnknownLetter e = absurd (omega arith)
-full-fault MalformedName e = absurd (omega arith)
-full-fault UnknownName e = absurd (omega arith)
-full-fault NameTwice e = absurd (omega arith)
-full-fault OutOfOrder e = absurd (omega arith)
-full-fault BadLevel e = absurd (omega arith)
-full-fault FieldCount e = absurd (omega arith)
-full-fault NotWhole e = absurd (omega arith)
+full_fault : (f : Fault) → number_of f ≡ 13 → f ≡ ListingFull
+full_fault Memory e = absurd (omega arith)
+full_fault NeverLaid e = absurd (omega arith)
+full_fault LevelCount e = absurd (omega arith)
+full_fault (LevelTooHigh a) e = absurd (omega arith)
+full_fault (OutputOutOfRange a) e = absurd (omega arith)
+full_fault (ReadsTooHigh a) e = absurd (omega arith)
+full_fault TooManyLines e = absurd (omega arith)
+full_fault HeadOutOfRange e = absurd (omega arith)
+full_fault TooManyLiterals e = absurd (omega arith)
+full_fault (LiteralOutOfRange a) e = absurd (omega arith)
+full_fault (LiteralAboveHead a) e = absurd (omega arith)
+full_fault WrongBuffer e = absurd (omega arith)
+full_fault ListingFull e = refl
+full_fault NoSuchAtom e = absurd (omega arith)
+full_fault NotEnded e = absurd (omega arith)
+full_fault TableFull e = absurd (omega arith)
+full_fault UnknownLetter e = absurd (omega arith)
+full_fault MalformedName e = absurd (omega arith)
+full_fault UnknownName e = absurd (omega arith)
+full_fault NameTwice e = absurd (omega arith)
+full_fault OutOfOrder e = absurd (omega arith)
+full_fault BadLevel e = absurd (omega arith)
+full_fault FieldCount e = absurd (omega arith)
+full_fault NotWhole e = absurd (omega arith)
 
 -- a plan is handed out: it is the next one
 pub record HandsOut (bank : Meaning) (s t : Contents) (set : List ℕ) : Type 0 where
@@ -167,15 +167,15 @@ module _ (bank : Meaning) (s t : Contents) (size : ℕ) (laid : 0 < length s.lev
   pub comes_to_end : Called bank s t (next size) no_more → Ends bank s t
   comes_to_end called = end_then (more_plans st) (answer no_more refl called) (goes no_more refl called)
 
-  full-then : (f : Fault) (b : Bool) → is_full s.listing ≡ b → Some (flaw f) ≡ fault_if 13 b → (f ≡ ListingFull) × (s.handed ≡ 1_000_000) × (1_000_000 ≤ length all)
-  full-then f true full e =
+  full_then : (f : Fault) (b : Bool) → is_full s.listing ≡ b → Some (flaw f) ≡ fault_if 13 b → (f ≡ ListingFull) × (s.handed ≡ 1_000_000) × (1_000_000 ≤ length all)
+  full_then f true full e =
       let n : number_of f ≡ 13 = number_in_some (flaw f) (record { number = 13; place = 0 }) e in
       let h = when_full s.listing s.handed (length all) full ok.stands in
-      (full-fault f n, h.0, h.1)
-  full-then f false full e = absurd (no_none (flaw f) (sym e))
+      (full_fault f n, h.0, h.1)
+  full_then f false full e = absurd (no_none (flaw f) (sym e))
 
   pub is_cut_off : (f : Fault) → Called bank s t (next size) (refused (flaw f)) → (f ≡ ListingFull) × (s.handed ≡ 1_000_000) × (1_000_000 ≤ length all)
-  is_cut_off f called = full-then f (is_full s.listing) refl (called.refusal_is ∙ fault_is)
+  is_cut_off f called = full_then f (is_full s.listing) refl (called.refusal_is ∙ fault_is)
 
 -- once the listing has ended, each atom is told
 module _ (bank : Meaning) (s : Contents) (a : ℕ) (r : Answer) (laid : a < length s.levels) (ended : is_ended s.listing ≡ true) (called : Called bank s s (tell a) r) where

@@ -14,7 +14,7 @@ use Rattle.semantics.specs.Plans.{Program, WellFormed, Plan}
 use Rattle.semantics.specs.Alternating.{Pair, Marks, marks_of, known, sure_at, possible_at, reachable, allowed, is_present, is_absent, settled, surely, possibly, surely_or_held, narrowed, contradictory, Reached, Agrees, Brackets}
 use Rattle.semantics.specs.Search.{absent, agrees, under, todo, back, Free, BoundsUnder, surely_broken}
 use Rattle.semantics.proofs.Booleans.{any_mono, and_mono, or_cases, or_left, or_right, and_left, and_right, and_from, decided, true_from, false_from, fails, holds, same_tests, each_from, count_small, count_grows}
-use Rattle.semantics.proofs.Bytes.{tabled-has, tabled_passes, same_sets}
+use Rattle.semantics.proofs.Bytes.{tabled_has, tabled_passes, same_sets}
 use Rattle.semantics.proofs.LeastModel.{closed_fewer, body_mono}
 use Rattle.semantics.proofs.Members.{all_from_each, all_two, none_from_all}
 use Rattle.semantics.proofs.Bounds.{output_more, reached_sound, calm_from, sure_least, possible_least}
@@ -52,7 +52,7 @@ module _ (s : List ℕ) where
 module _ (p : Program) (ok : WellFormed p) (marks : Marks) where
   module _ {q : Pair} (r : Reached p marks q) where
     held_sure : (a : ℕ) → a < p.atoms → T (is_present (marks a)) → T (has q.sure a)
-    held_sure a l h = (reached_marked p ok marks r).more_sure a (tabled-has (λ a. is_present (marks a)) p.atoms a l h)
+    held_sure a l h = (reached_marked p ok marks r).more_sure a (tabled_has (λ a. is_present (marks a)) p.atoms a l h)
 
     barred_impossible : (a : ℕ) → T (is_absent (marks a)) → T (has q.possible a) → ⊥
     barred_impossible a b h = T_not (is_absent (marks a)) (tabled_passes (λ a. not (is_absent (marks a))) p.atoms a ((reached_marked p ok marks r).less_possible a h)) b
@@ -68,20 +68,20 @@ module _ (p : Program) (ok : WellFormed p) (marks : Marks) where
           | inr f ↦ or_right (has q.sure a) (not (has q.possible a)) f
         ]))
 
-    gives-surely : (a : ℕ) → T (gives p.bank q.sure a) → T (surely p q a)
-    gives-surely = output_more p.bank (λ k. p.bank.given k q.sure) (sure_at p q) (λ k h. and_from (settled p q k) (p.bank.given k q.sure) (all_settled k) h)
+    gives_surely : (a : ℕ) → T (gives p.bank q.sure a) → T (surely p q a)
+    gives_surely = output_more p.bank (λ k. p.bank.given k q.sure) (sure_at p q) (λ k h. and_from (settled p q k) (p.bank.given k q.sure) (all_settled k) h)
 
-    possibly-gives : (a : ℕ) → T (possibly p q a) → T (gives p.bank q.sure a)
-    possibly-gives =
+    possibly_gives : (a : ℕ) → T (possibly p q a) → T (gives p.bank q.sure a)
+    possibly_gives =
         output_more p.bank (possible_at p q) (λ k. p.bank.given k q.sure)
         (λ k h. elim (or_cases (not (settled p q k)) (p.bank.given k q.sure) h) [ inl f ↦ absurd (T_not (settled p q k) f (all_settled k)) | inr g ↦ g ])
 
     meeting_stable : Least p.rules q.sure (gives p.bank q.sure) q.sure
     meeting_stable = record {
       closed = closed_fewer p.rules q.possible q.sure (surely_or_held p marks q) (gives p.bank q.sure) q.sure high
-          (λ a h. sure.closed a (or_left (surely_or_held p marks q a) (derives p.rules q.possible q.sure a) (or_left (surely p q a) (ltb a p.atoms && is_present (marks a)) (gives-surely a h)))) sure.closed;
+          (λ a h. sure.closed a (or_left (surely_or_held p marks q a) (derives p.rules q.possible q.sure a) (or_left (surely p q a) (ltb a p.atoms && is_present (marks a)) (gives_surely a h)))) sure.closed;
       smallest = λ t closed a h. (possible_least p ok q).smallest t
-          (closed_fewer p.rules q.sure q.sure (gives p.bank q.sure) (possibly p q) t (λ a h. h) (λ a h. closed a (or_left (gives p.bank q.sure a) (derives p.rules q.sure t a) (possibly-gives a h))) closed)
+          (closed_fewer p.rules q.sure q.sure (gives p.bank q.sure) (possibly p q) t (λ a h. h) (λ a h. closed a (or_left (gives p.bank q.sure a) (derives p.rules q.sure t a) (possibly_gives a h))) closed)
           a (and_left (has (reachable p q) a) (not (is_absent (marks a))) (tabled_passes (allowed p marks q) p.atoms a (subst (λ r. T (has r.possible a)) (sym still) (low a h))));
     }
       where
@@ -105,17 +105,17 @@ broken_between rs q s b =
 
 -- what a listing has under the choices
 module _ (p : Program) (ok : WellFormed p) (xs : List (List ℕ)) (ls : Listed (Plan p) xs) (cs : List Literal) {q : Pair} (b : BoundsUnder p cs q) where
-  under-plans : AllByRecursion (Plan p) (under cs xs)
-  under-plans = all_kept_by (agrees cs) (Plan p) xs (all_from_each (Plan p) xs (λ s m. (ls.members s).0 m))
+  under_plans : AllByRecursion (Plan p) (under cs xs)
+  under_plans = all_kept_by (agrees cs) (Plan p) xs (all_from_each (Plan p) xs (λ s m. (ls.members s).0 m))
 
   under_bracketed : AllByRecursion (Brackets q) (under cs xs)
   under_bracketed =
       all_two (Plan p) (λ s. agrees cs s ≡ true) (Brackets q) (λ s plan e. b.sound s plan (holds (agrees cs s) e))
-      (under cs xs) under-plans (kept_by_passes (agrees cs) xs)
+      (under cs xs) under_plans (kept_by_passes (agrees cs) xs)
 
   -- nothing, where no plan can lie between the bounds
   empties : ((s : List ℕ) → Plan p s → Brackets q s → ⊥) → under cs xs ≡ []
-  empties none = none_from_all (under cs xs) (all_two (Plan p) (Brackets q) (λ s. ⊥) none (under cs xs) under-plans under_bracketed)
+  empties none = none_from_all (under cs xs) (all_two (Plan p) (Brackets q) (λ s. ⊥) none (under cs xs) under_plans under_bracketed)
 
   pub contradiction_empties : contradictory p q ≡ true → under cs xs ≡ []
   contradiction_empties c = empties (λ s plan k. both_ways (contradictory p q) (calm_from p q (λ a h. k.high a (k.low a h))) c)
@@ -141,7 +141,7 @@ module _ (p : Program) (ok : WellFormed p) (xs : List (List ℕ)) (ls : Listed (
 
   module _ (high : q.possible ⊆ q.sure) where
     only : AllByRecursion (λ t. t ≡ q.sure) (under cs xs)
-    only = all_two (Plan p) (Brackets q) (λ t. t ≡ q.sure) (λ t plan k. same_sets plan.canonical b.canonical (λ a h. high a (k.high a h)) k.low) (under cs xs) under-plans under_bracketed
+    only = all_two (Plan p) (Brackets q) (λ t. t ≡ q.sure) (λ t plan k. same_sets plan.canonical b.canonical (λ a h. high a (k.high a h)) k.low) (under cs xs) under_plans under_bracketed
 
     -- bounds that meet: nothing where their set is no plan
     pub leaf_missed : (Plan p q.sure → ⊥) → under cs xs ≡ []

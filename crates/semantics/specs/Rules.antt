@@ -1,5 +1,5 @@
 -- Ground rules, the reduct by a set, and the least model of a reduct.
-use Rattle.std.specs.Prelude.{ℕ, zero, suc, Bool, true, false, not, ◌&&◌, ◌||◌, T, ltb, List, [], ◌==◌, nat_lt}
+use Rattle.std.specs.Prelude.{ℕ, zero, suc, Bool, true, false, not, ◌&&◌, ◌||◌, T, List, [], ◌==◌, nat_lt}
 use Rattle.semantics.specs.declared.Side.{Side}
 use Rattle.semantics.specs.declared.Side.TheVariants.{Present, Absent}
 use Rattle.semantics.specs.declared.Literal.{Literal}
@@ -71,4 +71,4 @@ head_below n Bar = true
 head_below n (Atom h) = nat_lt h n
 
 abbrev pub rule_below : ℕ → Rule → Bool
-rule_below n r = head_below n r.head && all (λ l. ltb l.atom n) r.body
+rule_below n r = head_below n r.head && all (λ l. nat_lt l.atom n) r.body

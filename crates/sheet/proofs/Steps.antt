@@ -47,9 +47,9 @@ one_more : (b : Bool) (handed all : ℕ) → eqb (handed + 1) 1_000_000 ≡ b �
 one_more true handed all e l m = (omega arith, eqb-true (handed + 1) 1_000_000 e)
 one_more false handed all e l m = let ne = eqb-false (handed + 1) 1_000_000 e in (omega arith, omega arith)
 
-leads-back : (b : Bool) (p : Program) (handed : ℕ) (cs : List Literal) → LeadsTo p handed (back cs) → Resumes (cond b Full Running) p handed cs
-leads-back true p handed cs k = tt
-leads-back false p handed cs k = k
+leads_back : (b : Bool) (p : Program) (handed : ℕ) (cs : List Literal) → LeadsTo p handed (back cs) → Resumes (cond b Full Running) p handed cs
+leads_back true p handed cs k = tt
+leads_back false p handed cs k = k
 
 tally_more : (xs : List (List ℕ)) (k a old : ℕ) → k < length xs → k < 1_000_000 → old ≡ held (take k xs) a → (b : Bool) → has (get_or xs k []) a ≡ b →
     cond b (min (old + 1) (2 ^ 32 - 1)) old ≡ held (take (k + 1) xs) a
@@ -62,9 +62,9 @@ next_passes st size laid fits going =
     let b : eqb size (atoms st) ≡ true = eq-eqb size (atoms st) fits in
     rw (l, b, going)
 
-same-contents : (l l' : List ℕ) (r r' : List Rule) (g g' : Listing) (h h' : ℕ) (t : List ℕ) (c c' : List Literal) → l ≡ l' → r ≡ r' → g ≡ g' → h ≡ h' → c ≡ c' →
+same_contents : (l l' : List ℕ) (r r' : List Rule) (g g' : Listing) (h h' : ℕ) (t : List ℕ) (c c' : List Literal) → l ≡ l' → r ≡ r' → g ≡ g' → h ≡ h' → c ≡ c' →
     ◌≡◌ {A = Contents} (record { levels = l; rules = r; listing = g; handed = h; tallies = t; opened = c }) (record { levels = l'; rules = r'; listing = g'; handed = h'; tallies = t; opened = c' })
-same-contents l l' r r' g g' h h' t c c' el er eg eh ec = cc
+same_contents l l' r r' g g' h h' t c c' el er eg eh ec = cc
 
 module _ (bank : Meaning) (s t : Contents) (cs : List Literal) (set : List ℕ) (size : ℕ) (laid : 0 < length s.levels) (fits : size ≡ length s.levels) where
   abbrev all : List (List ℕ)
@@ -96,7 +96,7 @@ module _ (bank : Meaning) (s t : Contents) (cs : List Literal) (set : List ℕ) 
       goes_on : t ≡ onward
       goes_on =
           let h : t.handed ≡ s.handed + 1 = omega (arith, out.handed, (few true going k ok).1) in
-          same-contents t.levels s.levels t.rules s.rules t.listing (after_plan (s.handed + 1)) t.handed (s.handed + 1) t.tallies t.opened cs
+          same_contents t.levels s.levels t.rules s.rules t.listing (after_plan (s.handed + 1)) t.handed (s.handed + 1) t.tallies t.opened cs
           out.levels out.rules (out.listing ∙ ap after_plan h) h out.opened
 
       onward_sound : Sound bank onward
@@ -107,7 +107,7 @@ module _ (bank : Meaning) (s t : Contents) (cs : List Literal) (set : List ℕ) 
             stands = one_more (eqb (s.handed + 1) 1_000_000) s.handed (length all) refl left (few true going k ok).1;
             tallied = λ a l. out.tallies a (omega arith)
                 ∙ tally_more all s.handed a (get_or s.tallies a 0) left (few true going k ok).1 (ok.tallied a l) (has set a) (ap (λ x. has x a) (sym (found.is_next refl)));
-            resumes = leads-back (eqb (s.handed + 1) 1_000_000) (in_force bank s) (s.handed + 1) cs (found.leads_on refl);
+            resumes = leads_back (eqb (s.handed + 1) 1_000_000) (in_force bank s) (s.handed + 1) cs (found.leads_on refl);
           }
 
       moves_on : state_of bank onward ≡ cond (more_plans (state_of bank s)) (state_of bank onward) (listing_at (state_of bank s) Ended s.handed)

@@ -1,5 +1,5 @@
 // What `lay` puts into a sheet: a level for each atom, no lines, and room for tallies and choices.
-ghost use Rattle.std.specs.Prelude.{◌≡◌, ◌≤◌, length, IfOk};
+ghost use Rattle.std.specs.Prelude.{◌≤◌, length, IfOk};
 ghost use Rattle.sheet.specs.Laying.{Parted};
 
 use derivation::ruleset::Ruleset;

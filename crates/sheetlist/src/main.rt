@@ -39,7 +39,7 @@ fn print_list(rt: &HostRuntime) -> Result<(), Stop> {
     if whole { Ok(()) } else { Err(Stop::Refused) }
 }
 
-// A refusal was printed, and an output that was closed ends the program quietly: neither is reported again.
+// Quiet on standard error: a refusal was printed, and a failed read or write shows by the status alone.
 fn main(rt: HostRuntime) -> ExitCode {
     match print_list(&rt) {
         Ok(()) => ExitCode::SUCCESS,

@@ -77,9 +77,9 @@ opening_kept last l [] h e = ordered_kept last l None h e
 opening_kept last l (f ∷ fs) h e = ordered_kept last l (letter_of f.bytes) h e
 
 -- the letter after a line or a bar is that of one again
-pub after-opening : (last : Letter) (n : ℕ) (ls : List (List ℕ)) (o : Opening) → rank_of last ≡ 2 → Ok (Some o) ≡ opened last n ls → rank_of o.letter ≡ 2
-after-opening last n [] o e h = let z : ◌≡◌ {A = ℕ} 0 1 = cc in absurd (omega arith)
-after-opening last n (l ∷ ls) o e h = go (opening last (fields_from 0 l)) refl h
+pub after_opening : (last : Letter) (n : ℕ) (ls : List (List ℕ)) (o : Opening) → rank_of last ≡ 2 → Ok (Some o) ≡ opened last n ls → rank_of o.letter ≡ 2
+after_opening last n [] o e h = let z : ◌≡◌ {A = ℕ} 0 1 = cc in absurd (omega arith)
+after_opening last n (l ∷ ls) o e h = go (opening last (fields_from 0 l)) refl h
   where
     letter_in : Option Opening → Letter
     letter_in None = Bar
@@ -118,7 +118,7 @@ module _ (d : Declared) (answer : Result (List Line) Located) (reader : Reader) 
         record {
           rules = more;
           same = ap (λ k. ruled d more k (to_come next)) line ∙ ap (ruled d more o.line) rest ∙ sym (opened_answer ∙ on);
-          ranked = ap rank_of letter ∙ after-opening reader.last reader.line (to_come reader) o going.ranked e;
+          ranked = ap rank_of letter ∙ after_opening reader.last reader.line (to_come reader) o going.ranked e;
           holds = entered.2;
         }
 

@@ -4,14 +4,14 @@ use Rattle.semantics.specs.Alternating.{marks_in}
 use Rattle.derivation.specs.Rulesets.{rules_in, atoms_in}
 use Rattle.bounds.specs.Rounds.{pair}
 use Rattle.bounds.proofs.Ending.{Underway, begun, ends_in_contradiction, ends_unchanged, goes_on, never_more}
-use Rattle.bounds.proofs.Rounding.{possibly_canonical, rounded-narrowed}
+use Rattle.bounds.proofs.Rounding.{possibly_canonical, rounded_narrowed}
 use Rattle.bounds.proofs.narrow.do_rounds.Goals as goal
 
 pub loop-turn-init : goal.loop-turn-init
 loop-turn-init g c ok =
     let p = over (g.M.Module.meaning c.args.bank.now) (atoms_in c.args.rules.now) (rules_in c.args.rules.now) in
     let ms = marks_in c.args.marks.now in
-    subst (Underway p ms 0) (sym c.requires.begin) (begun p ms)
+    subst (Underway p ms 0) (sym c.requires.widest) (begun p ms)
 
 pub round-requires : goal.round-requires
 round-requires g c =
@@ -39,7 +39,7 @@ returns-in-Contradiction g c ok =
     let r = pair c.round.new.sure c.round.new.possible in
     let given = pair c.query_between.new.sure_given c.query_between.new.possible_given in
     let size : length c.loop-turn.sure ≡ n = omega (arith, c.requires.sizes.1.0) in
-    let step = rounded-narrowed m rs n (length c.loop-turn.sure) q size ms given r c.query_between.ensures.sure c.query_between.ensures.possible c.round.ensures.narrowed in
+    let step = rounded_narrowed m rs n (length c.loop-turn.sure) q size ms given r c.query_between.ensures.sure c.query_between.ensures.possible c.round.ensures.narrowed in
     elim c.in-Contradiction.is [
       | inl e ↦ ends_in_contradiction p ms c.loop-turn._turn q r (c.loop-turn.invariant ok) step (sym e ∙ c.round.ensures.end)
       | inr e ↦ ends_unchanged p ms c.loop-turn._turn q r (c.loop-turn.invariant ok) step (sym e ∙ c.round.ensures.end)
@@ -56,7 +56,7 @@ loop-turn-preserved g c ok =
     let r = pair c.round.new.sure c.round.new.possible in
     let given = pair c.query_between.new.sure_given c.query_between.new.possible_given in
     let size : length c.loop-turn.sure ≡ n = omega (arith, c.requires.sizes.1.0) in
-    let step = rounded-narrowed m rs n (length c.loop-turn.sure) q size ms given r c.query_between.ensures.sure c.query_between.ensures.possible c.in-GoingOn.ensures.narrowed in
+    let step = rounded_narrowed m rs n (length c.loop-turn.sure) q size ms given r c.query_between.ensures.sure c.query_between.ensures.possible c.in-GoingOn.ensures.narrowed in
     goes_on p ms c.loop-turn._turn q r (c.loop-turn.invariant ok) step ok c.in-GoingOn.ensures.end
 
 pub returns : goal.returns

@@ -16,5 +16,5 @@ do_rounds-requires g c =
     record {
       sizes = (size, (search rules, search rules));
       givens = (search rules, search rules);
-      begin = pair_same sure possible;
+      widest = pair_same sure possible;
     }

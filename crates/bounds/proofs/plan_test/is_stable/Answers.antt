@@ -4,7 +4,7 @@ use Rattle.semantics.specs.Rules.{least}
 use Rattle.semantics.specs.Banks.{gives}
 use Rattle.semantics.proofs.Bytes.{tabled_canonical}
 use Rattle.derivation.specs.Rulesets.{rules_in, atoms_in}
-use Rattle.bounds.proofs.Leasts.{least-tabled}
+use Rattle.bounds.proofs.Leasts.{least_tabled}
 use Rattle.bounds.proofs.plan_test.is_stable.Goals as goal
 
 pub derive-requires : goal.derive-requires
@@ -21,5 +21,5 @@ returns g c =
     let s = c.args.set.now in
     let n = atoms_in c.args.rules.now in
     let filled = c.query_at.ensures ∙ ap (tabled given 0) c.requires.1 in
-    let derived = c.derive.ensures ∙ ap (λ bare. least rs s (has bare) n) filled ∙ least-tabled rs s given n in
+    let derived = c.derive.ensures ∙ ap (λ bare. least rs s (has bare) n) filled ∙ least_tabled rs s given n in
     c.is_same.ensures ∙ ap (same s) derived

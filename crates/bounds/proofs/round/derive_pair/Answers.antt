@@ -4,7 +4,7 @@ use Rattle.semantics.specs.Rules.{least}
 use Rattle.semantics.specs.Alternating.{marks_in, is_present, is_absent}
 use Rattle.semantics.proofs.Bytes.{tabled_canonical}
 use Rattle.derivation.specs.Rulesets.{rules_in, atoms_in}
-use Rattle.bounds.proofs.Leasts.{least-tabled}
+use Rattle.bounds.proofs.Leasts.{least_tabled}
 use Rattle.bounds.proofs.Rounding.{pair_same}
 use Rattle.bounds.proofs.round.derive_pair.Goals as goal
 
@@ -24,5 +24,5 @@ returns c =
     let held = c.hold.ensures ∙ ap (tabled bare 0) c.requires.sizes.0 in
     let size = c.requires.sizes.0 in
     pair_same
-    (c.derive.ensures ∙ ap (λ s. least rs c.args.possible.now (has s) n) held ∙ least-tabled rs c.args.possible.now bare n)
+    (c.derive.ensures ∙ ap (λ s. least rs c.args.possible.now (has s) n) held ∙ least_tabled rs c.args.possible.now bare n)
     (c.bar.ensures ∙ ap (λ k. tabled (λ a. has c.derive-2.new.model a && not (is_absent (ms a))) 0 k) size ∙ ap (λ s. tabled (λ a. has s a && not (is_absent (ms a))) 0 n) c.derive-2.ensures)

@@ -3,7 +3,7 @@ use lib.ListN.{length-map}
 use Rattle.std.proofs.lemmas.Result.{err_from_is_err_and}
 use Rattle.std.proofs.lemmas.Bool.{le-leb, lt-leb}
 use Rattle.modules.specs.Tables.{row_of, rows_of}
-use Rattle.modules.specs.Entries.{push_few, push_fits, map_end}
+use Rattle.modules.proofs.Entries.{push_few, push_fits, map_end}
 use Rattle.modules.proofs.rows.PairTable.push_row.Goals as goal
 
 pub invariant_of-self : goal.invariant_of-self

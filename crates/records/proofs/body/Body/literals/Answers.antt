@@ -1,5 +1,5 @@
 use Rattle.std.proofs.Common.{take, sym, arith}
-use Rattle.records.proofs.Bodies.{placed-literals, same_cut}
+use Rattle.records.proofs.Bodies.{placed_literals, same_cut}
 use Rattle.records.proofs.body.Body.literals.Goals as goal
 
 pub returns : goal.returns
@@ -9,4 +9,4 @@ returns c =
     let nine = self.nine in
     let places = self.places in
     let both = same_cut self.literals self.bytes self.count (omega arith) (omega arith) in
-    sym (placed-literals (take self.count self.literals) (take self.count self.bytes) both)
+    sym (placed_literals (take self.count self.literals) (take self.count self.bytes) both)
