@@ -39,7 +39,7 @@ fn print_list(rt: &HostRuntime) -> Result<(), Stop> {
     if whole { Ok(()) } else { Err(Stop::Refused) }
 }
 
-// Quiet on standard error: a refusal was printed, and a failed read or write shows by the status alone.
+// Quiet on standard error: a refusal was printed, and a failed read or write, or want of memory, shows by the status.
 fn main(rt: HostRuntime) -> ExitCode {
     match print_list(&rt) {
         Ok(()) => ExitCode::SUCCESS,
