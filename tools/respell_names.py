@@ -15,13 +15,12 @@ import sys
 NAME = r"[A-Za-z][A-Za-z0-9_'\-∪∷⊆∈≡≤<+*◌]*"
 SIGNATURE = re.compile(r"^( *)(?:abbrev |unfoldable )?(?:pub )?(?:abbrev |unfoldable )?(" + NAME + r") : (.*)$")
 RECORD = re.compile(r"^( *)(?:pub )?(?:record|data) (?:pub )?(" + NAME + r")[ :]")
-OPERATOR = re.compile(r"◌")
-# names that the rules below would give to another definition too, that speak of an older word, or that join two names:
-# a lemma on one function applied to another
+# names that the rules below would give to another definition too, or that speak of an older word
 CHOSEN = {
     "is-plan": "is_plan_step", "okOr-ok": "ok_or_ok", "getD-tabled": "get_or-tabled", "all_get_d": "all-get_or",
-    "has-set-other": "has-set_other", "has-set_other": "has-set_other", "ok_or-ok": "ok_or_ok",
+    "has-set-other": "has-set_other",
 }
+# names that join two functions: a lemma on the first applied to the second
 JOINING = {"get_or-tabled", "all-get_or", "has-set", "has-set_other", "has-tabled", "length-tabled", "absent-set"}
 # labels of clauses that had none, by what the clause says
 LABELS = {
@@ -41,10 +40,6 @@ def read(path):
 
 def is_function_file(path):
     return os.path.basename(path) in ("Answers.antt", "Invariants.antt", "Proof.antt")
-
-
-def result_of(signature):
-    return signature.split("→")[-1].strip()
 
 
 def declared():
@@ -72,7 +67,7 @@ def declared():
                 while whole.endswith(("→", "×")) and k < len(lines):
                     whole += " " + lines[k].strip()
                     k += 1
-                if result_of(whole) == "Type 0":
+                if whole.split("→")[-1].strip() == "Type 0":
                     kind = "type"
                 elif "/specs/" in path and re.match(r"^ *(pub )?(abbrev|unfoldable)", line):
                     kind = "word"
@@ -96,7 +91,7 @@ def camel(name):
 def respelled(kinds):
     turned = {}
     for name, kind in kinds.items():
-        if OPERATOR.search(name) or name in JOINING:
+        if "◌" in name or name in JOINING:
             continue
         if name in CHOSEN:
             new = CHOSEN[name]
