@@ -1,4 +1,4 @@
-// The theorems on the definitions of specs/: each of these functions has one as its contract, and its value says nothing.
+// The theorems on the definitions of specs/: each of these functions has one as its contract, and does nothing.
 
 ghost use Rattle.semantics.specs.Theorems.{RoundsReachTheLeastModel, SetsAreListedOnceInOrder, PlansAreListedOnceInOrder, HeldCountsThePlansWithAnAtom, BoundsHoldInEveryPlan, AContradictionLeavesNoPlan, NoMarksNoContradiction, EachRoundNarrows, RoundsEndAtOnePair, RoundsBoundTheSearch, SearchStepsKeepTheListing, SearchStepsLeaveLessWork, SearchFindsEveryPlan};
 ghost use Rattle.semantics.specs.Modules.{ModulesAreLawful, RuleModulesAnswerByPlans};
@@ -6,128 +6,108 @@ ghost use Rattle.semantics.specs.History.{EachCallHasOneAnswer, EveryRunKeepsThe
 ghost use Rattle.semantics.specs.Worked.{Worked, WorkedHistory, WorkedFaults};
 
 // Least models and listing order.
-pub fn rounds_reach_the_least_model() -> u8
+pub fn rounds_reach_the_least_model()
     ensures { RoundsReachTheLeastModel }
 {
-    0
 }
 
-pub fn sets_are_listed_once_in_order() -> u8
+pub fn sets_are_listed_once_in_order()
     ensures { SetsAreListedOnceInOrder }
 {
-    0
 }
 
 // Plans.
-pub fn plans_are_listed_once_in_order() -> u8
+pub fn plans_are_listed_once_in_order()
     ensures { PlansAreListedOnceInOrder }
 {
-    0
 }
 
-pub fn held_counts_the_plans_with_an_atom() -> u8
+pub fn held_counts_the_plans_with_an_atom()
     ensures { HeldCountsThePlansWithAnAtom }
 {
-    0
 }
 
 // Bounds.
-pub fn bounds_hold_in_every_plan() -> u8
+pub fn bounds_hold_in_every_plan()
     ensures { BoundsHoldInEveryPlan }
 {
-    0
 }
 
-pub fn a_contradiction_leaves_no_plan() -> u8
+pub fn a_contradiction_leaves_no_plan()
     ensures { AContradictionLeavesNoPlan }
 {
-    0
 }
 
-pub fn no_marks_no_contradiction() -> u8
+pub fn no_marks_no_contradiction()
     ensures { NoMarksNoContradiction }
 {
-    0
 }
 
-pub fn each_round_narrows() -> u8
+pub fn each_round_narrows()
     ensures { EachRoundNarrows }
 {
-    0
 }
 
-pub fn rounds_end_at_one_pair() -> u8
+pub fn rounds_end_at_one_pair()
     ensures { RoundsEndAtOnePair }
 {
-    0
 }
 
 // Search.
-pub fn search_steps_keep_the_listing() -> u8
+pub fn search_steps_keep_the_listing()
     ensures { SearchStepsKeepTheListing }
 {
-    0
 }
 
-pub fn rounds_bound_the_search() -> u8
+pub fn rounds_bound_the_search()
     ensures { RoundsBoundTheSearch }
 {
-    0
 }
 
-pub fn search_steps_leave_less_work() -> u8
+pub fn search_steps_leave_less_work()
     ensures { SearchStepsLeaveLessWork }
 {
-    0
 }
 
-pub fn search_finds_every_plan() -> u8
+pub fn search_finds_every_plan()
     ensures { SearchFindsEveryPlan }
 {
-    0
 }
 
 // Modules.
-pub fn modules_are_lawful() -> u8
+pub fn modules_are_lawful()
     ensures { ModulesAreLawful }
 {
-    0
 }
 
-pub fn rule_modules_answer_by_plans() -> u8
+pub fn rule_modules_answer_by_plans()
     ensures { RuleModulesAnswerByPlans }
 {
-    0
 }
 
 // Lists of calls.
-pub fn each_call_has_one_answer() -> u8
+pub fn each_call_has_one_answer()
     ensures { EachCallHasOneAnswer }
 {
-    0
 }
 
-pub fn every_run_keeps_the_law() -> u8
+pub fn every_run_keeps_the_law()
     ensures { EveryRunKeepsTheLaw }
 {
-    0
 }
 
 // Examples, by computation.
-pub fn small_sheets_work_out() -> u8
+pub fn small_sheets_work_out()
     ensures { Worked }
 {
-    0
 }
 
-pub fn a_history_works_out() -> u8
+pub fn a_history_works_out()
     ensures { WorkedHistory }
 {
-    0
 }
 
-pub fn faults_work_out() -> u8
+pub fn faults_work_out()
     ensures { WorkedFaults }
 {
-    0
 }
