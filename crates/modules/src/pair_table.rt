@@ -2,7 +2,7 @@
 ghost use Rattle.std.specs.Prelude.{◌≡◌, ◌&&◌, ◌||◌, [], ◌==◌};
 ghost use Rattle.semantics.specs.Sets.{has};
 ghost use Rattle.semantics.specs.Modules.{pair_table};
-ghost use Rattle.modules.specs.Tables.{rows_of, RowPushed, RowAt};
+ghost use Rattle.modules.specs.Tables.{row_of, rows_of, RowPushed, RowAt};
 ghost use Rattle.modules.specs.TableLaw.{pair_table_lawful};
 
 use crate::query::Module;
@@ -23,13 +23,13 @@ impl PairTable {
     }
 
     // Refused with fault 19 at 64 rows, and for want of memory with none lost.
-    pub fn push_row(&mut self, one: u16, other: u16, to: u16) -> Result<(), Fault>
-        ensures { RowPushed (rows_of self.old) (rows_of self.new) (record { one = one; other = other; to = to }) result }
+    pub fn push_row(&mut self, row: Pair) -> Result<(), Fault>
+        ensures { RowPushed (rows_of self.old) (rows_of self.new) (row_of row) result }
     {
         if self.rows.len() >= ROWS {
             return Err(Fault::TableFull);
         }
-        self.rows.push(Pair { one, other, to })?;
+        self.rows.push(row)?;
         Ok(())
     }
 }
@@ -37,8 +37,7 @@ impl PairTable {
 fn is_present(set: &[u8], atom: u16) -> bool
     ensures { result ≡ has set.now atom }
 {
-    let a = atom as usize;
-    a < set.len() && set[a] == 1
+    set.get(atom as usize) == Some(&1)
 }
 
 impl Pair {
@@ -59,10 +58,7 @@ impl Pair {
 fn row_at(table: &PairTable, position: u16) -> Option<Pair>
     ensures { RowAt table.now.rows.items position result }
 {
-    match table.rows.get(position as usize) {
-        Some(row) => Some(*row),
-        None => None,
-    }
+    table.rows.get(position as usize).copied()
 }
 
 impl Module for PairTable {
@@ -75,23 +71,14 @@ impl Module for PairTable {
     }
 
     fn atom(&self, position: u16) -> u16 {
-        match row_at(self, position) {
-            Some(row) => row.to,
-            None => 65535,
-        }
+        row_at(self, position).map_or(65535, |row| row.to)
     }
 
     fn reads(&self, position: u16, atom: u16) -> bool {
-        match row_at(self, position) {
-            Some(row) => row.reads(atom),
-            None => false,
-        }
+        row_at(self, position).is_some_and(|row| row.reads(atom))
     }
 
     fn given(&self, position: u16, set: &[u8]) -> bool {
-        match row_at(self, position) {
-            Some(row) => row.given(set),
-            None => false,
-        }
+        row_at(self, position).is_some_and(|row| row.given(set))
     }
 }

@@ -3,7 +3,7 @@ ghost use Rattle.std.specs.Prelude.{◌≡◌, ◌≤◌, true, vec_len};
 ghost use Rattle.modules.specs.Pairs.{atoms_fit};
 
 // Where the atoms `one` and `other` are both present, the row gives the atom `to`.
-#[derive(Clone, Copy)]
+#[derive(Clone, Copy, PartialEq, Eq, Debug)]
 pub struct Pair {
     pub one: u16,
     pub other: u16,

@@ -9,7 +9,7 @@ use Rattle.modules.proofs.rows.PairTable.push_row.Goals as goal
 pub invariant_of-self : goal.invariant_of-self
 invariant_of-self c = record {
   few = push_few (is_ok c.push.result) (vec_len c.args.self.now.rows) (vec_len c.push.new.self) c.push.ensures.len (omega arith);
-  within = push_fits (is_ok c.push.result) (vec_items c.args.self.now.rows) (vec_items c.push.new.self) (record { one = c.args.one; other = c.args.other; to = c.args.to }) c.push.ensures.items c.args.self.now.within (omega arith);
+  within = push_fits (is_ok c.push.result) (vec_items c.args.self.now.rows) (vec_items c.push.new.self) c.args.row c.push.ensures.items c.args.self.now.within (omega arith);
 }
 
 pub returns : goal.returns
