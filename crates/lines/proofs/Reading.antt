@@ -1,7 +1,7 @@
 -- A line that is read is the rule at its place.
-use Rattle.std.proofs.Common.{◌≡◌, ℕ, ◌<◌, ◌≤◌, T, ltb, List, length, get_or, sym, ap, ◌∙◌, subst, arith}
-use Rattle.std.proofs.lemmas.List.{get_or-map, length-map, length-take}
-use Rattle.semantics.specs.Sets.{all}
+use Rattle.std.proofs.Common.{◌≡◌, ℕ, ◌<◌, Bool, ◌||◌, T, ltb, List, [], ◌∷◌, map, length, get_or, sym, refl, ap, ◌∙◌, subst, arith}
+use Rattle.std.proofs.lemmas.List.{get_or-map, length-map}
+use Rattle.semantics.specs.Sets.{any, all}
 use Rattle.semantics.specs.Rules.{rule_below, head_below}
 use Rattle.semantics.proofs.Booleans.{and_right}
 use Rattle.lines.specs.declared.line.Line.{Line}
@@ -21,5 +21,6 @@ rule_below_read n ls i l h e b =
 pub body_below_read : (n : ℕ) (ls : List Line) (i : ℕ) (l : Line) → i < length ls → l ≡ get_or ls i l → T (all (rule_below n) (rules_of ls)) → T (all (λ x. ltb x.atom n) (rule_of l).body)
 body_below_read n ls i l h e b = and_right (head_below n l.head) (all (λ x. ltb x.atom n) (rule_of l).body) (rule_below_read n ls i l h e b)
 
-pub body_short : (l : Line) → length (rule_of l).body ≤ 8
-body_short l = omega (arith, length-take l.count l.literals, l.short)
+pub any_map : {A B : Type 0} (p : B → Bool) (f : A → B) (xs : List A) → any p (map f xs) ≡ any (λ x. p (f x)) xs
+any_map p f [] = refl
+any_map p f (x ∷ xs) = ap (λ b. p (f x) || b) (any_map p f xs)

@@ -1,11 +1,11 @@
 -- Lines as rules.
-use Rattle.std.specs.Prelude.{List, [], map, take}
+use Rattle.std.specs.Prelude.{List, [], map}
 use Rattle.semantics.specs.declared.Head.TheVariants.{Bar}
 use Rattle.semantics.specs.Rules.{Rule}
 use Rattle.lines.specs.declared.line.Line.{Line}
 
 abbrev pub rule_of : Line → Rule
-rule_of l = record { head = l.head; body = take l.count l.literals }
+rule_of l = record { head = l.head; body = l.body.items }
 
 abbrev pub rules_of : List Line → List Rule
 rules_of ls = map rule_of ls

@@ -8,6 +8,7 @@ ghost use Rattle.modules.specs.TableLaw.{pair_table_lawful};
 use crate::query::Module;
 use crate::rows::{Pair, PairTable};
 use faults::Fault;
+use semantics::sets::is_present;
 use std::alloc::Global;
 
 // The most rows that a table has.
@@ -32,12 +33,6 @@ impl PairTable {
         self.rows.push(row)?;
         Ok(())
     }
-}
-
-fn is_present(set: &[u8], atom: u16) -> bool
-    ensures { result ≡ has set.now atom }
-{
-    set.get(atom as usize) == Some(&1)
 }
 
 impl Pair {
