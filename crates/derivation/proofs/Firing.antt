@@ -1,12 +1,10 @@
 -- What firing a line, as the code does, brings to a deriving.
-use Rattle.std.proofs.Common.{◌≡◌, ℕ, zero, suc, ◌+◌, ◌-◌, ◌<◌, T, eqb, ◌⊎◌, List, ◌++◌, length, get_or, take, sym, ap, ◌∙◌, subst, inl, inr, arith, eqb→eq}
+use Rattle.std.proofs.Common.{◌≡◌, ℕ, ◌+◌, ◌<◌, ◌≤◌, T, ◌⊎◌, List, ◌++◌, length, get_or, take, drop, sym, ap, ◌∙◌, subst, inl, inr, arith}
+use Rattle.std.proofs.lemmas.List.{drop_more, drop_all}
 use Rattle.std.proofs.lemmas.Bool.{cases_eq}
-use Rattle.semantics.specs.Sets.{all, Canonical}
+use Rattle.semantics.specs.Sets.{all, Canonical, ◌∈◌}
 use Rattle.semantics.specs.Rules.{Rule, rule_below}
-use Rattle.semantics.proofs.Booleans.{or_cases}
-use Rattle.derivation.specs.declared.index.Cell.{Cell}
 use Rattle.lines.specs.declared.line.Line.{Line}
-use Rattle.derivation.specs.Indexing.{no_cell, leads, Leads}
 use Rattle.lines.specs.Lines.{rule_of, rules_of}
 use Rattle.derivation.specs.Worklist.{newly, joined_by, Underway, From, Nothing, Advances}
 use Rattle.lines.proofs.Reading.{rule_read, rules_count}
@@ -26,22 +24,14 @@ module _ (ls : List Line) (by : List ℕ) (i : ℕ) (l : Line) (here : i < lengt
 pub from_more : (i j : ℕ) → From i j → From (i + 1) j ⊎ (j ≡ i)
 from_more i j l = elim (cases_eq j i) [ inl e ↦ inr e | inr other ↦ inl (omega arith) ]
 
--- a chain, one cell on and at its end
-pub leads_more : (cells : List Cell) (chain j : ℕ) → 0 < chain → Leads cells chain j →
-    Leads cells (get_or cells (chain - 1) no_cell).next j ⊎ (j ≡ (get_or cells (chain - 1) no_cell).line)
-leads_more cells chain j l (zero, h) = absurd h
-leads_more cells zero j l (suc k, h) = absurd (omega arith)
-leads_more cells (suc c) j l (suc k, h) =
-    let cell = get_or cells c no_cell in
-    let e : suc c - 1 ≡ c = omega arith in
-    rw e (elim (or_cases (eqb cell.line j) (leads cells k cell.next j) h) [
-      | inl here ↦ inr (sym (eqb→eq cell.line j here))
-      | inr later ↦ inl (k, later)
-    ])
+-- the numbers from a place on
+pub numbers_more : (numbers : List ℕ) (i j : ℕ) → i < length numbers → j ∈ drop i numbers → (j ∈ drop (i + 1) numbers) ⊎ (j ≡ get_or numbers i 0)
+numbers_more numbers i j l h =
+    let e = drop_more numbers i 0 l in
+    elim (subst (λ xs. j ∈ xs) e h) [ inl here ↦ inr here | inr later ↦ inl later ]
 
-pub leads_none : (cells : List Cell) (j : ℕ) → Leads cells 0 j → ⊥
-leads_none cells j (zero, h) = h
-leads_none cells j (suc k, h) = h
+pub numbers_done : (numbers : List ℕ) (i j : ℕ) → length numbers ≤ i → j ∈ drop i numbers → ⊥
+numbers_done numbers i j l h = subst (λ xs. j ∈ xs) (drop_all i numbers l) h
 
 -- from an empty stack and the bare atoms alone
 pub from_start : (rs : List Rule) (by bare : List ℕ) → T (all (rule_below (length bare)) rs) → Canonical (length bare) bare → (len : ℕ) (entries : List ℕ) → len ≡ 0 → (m p model pending : List ℕ) →

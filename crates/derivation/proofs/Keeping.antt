@@ -1,18 +1,14 @@
 -- The index kept in step with the lines, as the last one comes and goes.
-use Rattle.std.proofs.Common.{◌≡◌, ℕ, T, List, [], ◌∷◌, ◌++◌, length, sym, refl, ap, ◌∙◌}
+use Rattle.std.proofs.Common.{◌≡◌, ℕ, T, List, [], ◌∷◌, ◌++◌, length, sym, ap, ◌∙◌}
 use Rattle.std.proofs.lemmas.List.{map_push}
 use Rattle.semantics.specs.Sets.{all}
 use Rattle.semantics.specs.Rules.{rule_below}
 use Rattle.semantics.proofs.Booleans.{and_left, and_right, and_from}
 use Rattle.lines.specs.declared.line.Line.{Line}
-use Rattle.derivation.specs.Indexing.{Chains, no_chains, put_body, index_of, numbers}
+use Rattle.derivation.specs.Indexing.{put_body, index_of}
 use Rattle.lines.specs.Lines.{rule_of, rules_of}
-use Rattle.derivation.proofs.Chaining.{same_numbers, index_push}
+use Rattle.derivation.proofs.Waking.{index_push}
 use Rattle.lines.proofs.Reading.{rules_count}
-
-pub index_none : (n : ℕ) → index_of n [] ≡ no_chains n
-unfolding index_of
-index_none n = refl
 
 -- every rule, and the last one
 module _ (n : ℕ) where
@@ -36,10 +32,8 @@ module _ (n : ℕ) where
     one_more : index_of n (rules_of (ls ++ l ∷ [])) ≡ put_body (length ls) (rule_of l).body (index_of n (rules_of ls))
     one_more = ap (index_of n) (map_push rule_of ls l) ∙ index_push n (rules_of ls) (rule_of l) ∙ ap (λ j. put_body j (rule_of l).body (index_of n (rules_of ls))) (rules_count ls)
 
-    pub entered : (ch ch' : Chains) (j : ℕ) → numbers ch ≡ numbers (index_of n (rules_of ls)) → j ≡ length ls → ch' ≡ put_body j (rule_of l).body ch →
-        numbers ch' ≡ numbers (index_of n (rules_of (ls ++ l ∷ [])))
-    entered ch ch' j same e step =
-        ap numbers (step ∙ ap (λ k. put_body k (rule_of l).body ch) e ∙ ap (put_body (length ls) (rule_of l).body) (same_numbers ch (index_of n (rules_of ls)) same) ∙ sym one_more)
+    pub entered : (lists lists' : List (List ℕ)) (j : ℕ) → lists ≡ index_of n (rules_of ls) → j ≡ length ls → lists' ≡ put_body j (rule_of l).body lists → lists' ≡ index_of n (rules_of (ls ++ l ∷ []))
+    entered lists lists' j same e step = step ∙ ap (λ k. put_body k (rule_of l).body lists) e ∙ ap (put_body (length ls) (rule_of l).body) same ∙ sym one_more
 
-    pub struck : (ch : Chains) → numbers ch ≡ numbers (index_of n (rules_of (ls ++ l ∷ []))) → ch ≡ put_body (length ls) (rule_of l).body (index_of n (rules_of ls))
-    struck ch same = same_numbers ch (index_of n (rules_of (ls ++ l ∷ []))) same ∙ one_more
+    pub struck : (lists : List (List ℕ)) → lists ≡ index_of n (rules_of (ls ++ l ∷ [])) → lists ≡ put_body (length ls) (rule_of l).body (index_of n (rules_of ls))
+    struck lists same = same ∙ one_more

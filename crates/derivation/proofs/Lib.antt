@@ -1,5 +1,5 @@
 mod Working
 mod Room
 mod Firing
-mod Chaining
+mod Waking
 mod Keeping

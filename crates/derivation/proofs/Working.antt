@@ -19,7 +19,7 @@ use Rattle.derivation.specs.Worklist.{due, newly, joined_by, HasHead, Underway, 
 
 -- an element has a place
 module _ {A : Type 0} (d : A) where
-  at_place : (xs : List A) (i : ℕ) → i < length xs → get_or xs i d ∈ xs
+  pub at_place : (xs : List A) (i : ℕ) → i < length xs → get_or xs i d ∈ xs
   at_place [] i l = absurd (omega arith)
   at_place (x ∷ xs) zero l = inl refl
   at_place (x ∷ xs) (suc i) l = inr (at_place xs i (omega arith))

@@ -10,4 +10,4 @@ rules_in x = rules_of (vec_items x.lines)
 
 -- how many atoms it is over
 abbrev pub atoms_in : Ruleset → ℕ
-atoms_in x = vec_len x.index.first
+atoms_in x = vec_len x.index.woken

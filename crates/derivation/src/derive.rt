@@ -4,10 +4,10 @@
 // was derived and has not been used yet wakes the lines in whose plain body it stands, and they are
 // fired again. To fire a line is to put its head into the model if its body holds. Each atom comes
 // on the stack at most once, so there is always room, and no memory is asked for.
-ghost use Rattle.std.specs.Prelude.{◌≡◌, ◌+◌, ◌<◌, ◌≤◌, T, ◌++◌, length, take, slice_index};
-ghost use Rattle.semantics.specs.Sets.{has, all, Canonical};
+ghost use Rattle.std.specs.Prelude.{◌≡◌, ℕ, ◌+◌, ◌<◌, ◌≤◌, T, ◌++◌, length, take};
+ghost use Rattle.semantics.specs.Sets.{has, all, Canonical, ◌∈◌};
 ghost use Rattle.semantics.specs.Rules.{least, rule_below};
-ghost use Rattle.derivation.specs.Indexing.{Indexed, Leads, chains_of, index_of};
+ghost use Rattle.derivation.specs.Indexing.{lists_of, index_of};
 ghost use Rattle.lines.specs.Lines.{rule_of, rules_of};
 ghost use Rattle.derivation.specs.Worklist.{newly, joined_by, absent, Advances, From, Nothing};
 
@@ -19,7 +19,7 @@ use semantics::Head;
 
 // Puts the head of a line whose body holds into the model and on the stack, if it is new.
 fn fire(line: &Line, by: &[u8], model: &mut [u8], pending: &mut Stack<u16>)
-    requires below { (T (rule_below (length model.old) (rule_of line.now))) × (length by.now ≡ length model.old) }
+    requires below { T (rule_below (length model.old) (rule_of line.now)) }
     requires room { pending.old.len + absent model.old ≤ length pending.old.entries.now }
     ensures size { length pending.new.entries.now ≡ length pending.old.entries.now }
     ensures model { model.new ≡ joined_by model.old (newly by.now model.old (rule_of line.now)) }
@@ -37,7 +37,7 @@ fn fire(line: &Line, by: &[u8], model: &mut [u8], pending: &mut Stack<u16>)
 
 // Fires each line once.
 fn fire_all(lines: &[Line], by: &[u8], model: &mut [u8], pending: &mut Stack<u16>)
-    requires below { (T (all (rule_below (length model.old)) (rules_of lines.now))) × (length by.now ≡ length model.old) }
+    requires below { T (all (rule_below (length model.old)) (rules_of lines.now)) }
     requires room { pending.old.len + absent model.old ≤ length pending.old.entries.now }
     ensures size { length pending.new.entries.now ≡ length pending.old.entries.now }
     ensures room { pending.new.len + absent model.new ≡ pending.old.len + absent model.old }
@@ -48,35 +48,26 @@ fn fire_all(lines: &[Line], by: &[u8], model: &mut [u8], pending: &mut Stack<u16
     }
 }
 
-// Fires each line in whose plain body the atom stands.
-fn wake(
-    lines: &[Line],
-    index: &Index,
-    atom: u16,
-    by: &[u8],
-    model: &mut [u8],
-    pending: &mut Stack<u16>,
-)
-    requires indexed { (Indexed (length model.old) (rules_of lines.now) (chains_of index.now)) × (atom < length model.old) }
-    requires below { (T (all (rule_below (length model.old)) (rules_of lines.now))) × (length by.now ≡ length model.old) }
+// Fires the lines with these numbers.
+fn wake(lines: &[Line], numbers: &[u16], by: &[u8], model: &mut [u8], pending: &mut Stack<u16>)
+    requires named { (j : ℕ) → j ∈ numbers.now → j < length lines.now }
+    requires below { T (all (rule_below (length model.old)) (rules_of lines.now)) }
     requires room { pending.old.len + absent model.old ≤ length pending.old.entries.now }
     ensures size { length pending.new.entries.now ≡ length pending.old.entries.now }
     ensures room { pending.new.len + absent model.new ≡ pending.old.len + absent model.old }
     ensures fewer { absent model.new ≤ absent model.old }
-    ensures fired { Advances (rules_of lines.now) by.now (Leads (chains_of index.now).cells (slice_index (chains_of index.now).first atom)) Nothing model.old (take pending.old.len pending.old.entries.now) model.new (take pending.new.len pending.new.entries.now) }
+    ensures fired { Advances (rules_of lines.now) by.now (λ j. j ∈ numbers.now) Nothing model.old (take pending.old.len pending.old.entries.now) model.new (take pending.new.len pending.new.entries.now) }
 {
-    let mut chain = index.first[atom as usize];
-    while chain > 0 {
-        let cell = index.cells[chain as usize - 1];
-        fire(&lines[cell.line as usize], by, model, pending);
-        chain = cell.next;
+    for number in numbers {
+        fire(&lines[*number as usize], by, model, pending);
     }
 }
 
 // Derives the least model of the reduct by `by`. The model holds the bare atoms at the start.
 pub fn derive(lines: &[Line], index: &Index, by: &[u8], model: &mut [u8])
-    requires index { (chains_of index.now ≡ index_of (length model.old) (rules_of lines.now)) × (length model.old ≤ 256) }
-    requires below { (T (all (rule_below (length model.old)) (rules_of lines.now))) × (length by.now ≡ length model.old) }
+    requires index { lists_of index.now ≡ index_of (length model.old) (rules_of lines.now) }
+    requires few { length model.old ≤ 256 }
+    requires below { T (all (rule_below (length model.old)) (rules_of lines.now)) }
     requires canonical { Canonical (length model.old) model.old }
     ensures { model.new ≡ least (rules_of lines.now) by.now (has model.old) (length model.old) }
 {
@@ -84,6 +75,6 @@ pub fn derive(lines: &[Line], index: &Index, by: &[u8], model: &mut [u8])
     let mut pending = Stack::new(&mut room[..]);
     fire_all(lines, by, model, &mut pending);
     while let Some(atom) = pending.pop() {
-        wake(lines, index, atom, by, model, &mut pending);
+        wake(lines, index.woken_by(atom), by, model, &mut pending);
     }
 }

@@ -6,7 +6,7 @@ ghost use Rattle.std.specs.Prelude.{◌≡◌, ◌<◌, ◌≤◌, T, [], ◌∷
 ghost use Rattle.std.specs.Option.{option_to_list};
 ghost use Rattle.semantics.specs.Sets.{has, all, Canonical};
 ghost use Rattle.semantics.specs.Rules.{least, bar_holds, rule_below};
-ghost use Rattle.derivation.specs.Indexing.{chains_of, index_of, numbers};
+ghost use Rattle.derivation.specs.Indexing.{lists_of, index_of};
 ghost use Rattle.lines.specs.Lines.{rule_of, rules_of};
 
 use crate::derive;
@@ -19,20 +19,20 @@ use std::alloc::{AllocError, Global};
 pub struct Ruleset {
     lines: Vec<Line>,
     index: Index,
-    ghost narrow: { vec_len index.first ≤ 256 },
+    ghost narrow: { vec_len index.woken ≤ 256 },
     ghost few: { vec_len lines ≤ 512 },
-    ghost below: { T (all (rule_below (vec_len index.first)) (rules_of lines.items)) },
-    ghost indexed: { numbers (chains_of index) ≡ numbers (index_of (vec_len index.first) (rules_of lines.items)) },
+    ghost below: { T (all (rule_below (vec_len index.woken)) (rules_of lines.items)) },
+    ghost indexed: { lists_of index ≡ index_of (vec_len index.woken) (rules_of lines.items) },
 }
 
 impl Ruleset {
     // No lines over no atoms, which needs no memory.
     pub fn empty(heap: Global) -> Ruleset
-        ensures { (result.lines.items ≡ []) × (vec_len result.index.first ≡ 0) }
+        ensures lines { result.lines.items ≡ [] }
+        ensures atoms { vec_len result.index.woken ≡ 0 }
     {
         let index = Index {
-            first: Vec::new(heap),
-            cells: Vec::new(heap),
+            woken: Vec::new(heap),
         };
         let lines = Vec::new(heap);
         Ruleset { lines, index }
@@ -41,7 +41,7 @@ impl Ruleset {
     // No lines, over so many atoms.
     pub fn new(heap: Global, atoms: usize) -> Result<Ruleset, AllocError>
         requires { atoms ≤ 256 }
-        ensures { IfOk result (λ x. (x.lines.items ≡ []) × (vec_len x.index.first ≡ atoms)) }
+        ensures { IfOk result (λ x. (x.lines.items ≡ []) × (vec_len x.index.woken ≡ atoms)) }
     {
         let lines = Vec::new(heap);
         let index = Index::new(heap, atoms)?;
@@ -50,9 +50,10 @@ impl Ruleset {
 
     // Adds a line after the others, or changes nothing for want of memory.
     pub fn enter(&mut self, line: Line) -> Result<(), AllocError>
-        requires { (T (rule_below (vec_len self.old.index.first) (rule_of line))) × (vec_len self.old.lines < 512) }
+        requires below { T (rule_below (vec_len self.old.index.woken) (rule_of line)) }
+        requires few { vec_len self.old.lines < 512 }
         ensures lines { MatchResult result (λ _. self.new.lines.items ≡ self.old.lines.items ++ line ∷ []) (λ _. self.new.lines.items ≡ self.old.lines.items) }
-        ensures atoms { vec_len self.new.index.first ≡ vec_len self.old.index.first }
+        ensures atoms { vec_len self.new.index.woken ≡ vec_len self.old.index.woken }
     {
         self.lines.reserve(1)?;
         self.index.enter(self.lines.len() as u16, line.body())?;
@@ -63,7 +64,7 @@ impl Ruleset {
     // Takes the last line off, if there is one.
     pub fn strike(&mut self) -> Option<Line>
         ensures lines { self.old.lines.items ≡ self.new.lines.items ++ option_to_list result }
-        ensures atoms { vec_len self.new.index.first ≡ vec_len self.old.index.first }
+        ensures atoms { vec_len self.new.index.woken ≡ vec_len self.old.index.woken }
     {
         let line = self.lines.pop()?;
         self.index.strike(line.body());
@@ -79,15 +80,14 @@ impl Ruleset {
 
     // Derives the least model of the reduct by `by`. The model holds the bare atoms at the start.
     pub fn derive(&self, by: &[u8], model: &mut [u8])
-        requires { (length by.now ≡ vec_len self.now.index.first) × (Canonical (vec_len self.now.index.first) model.old) }
-        ensures { model.new ≡ least (rules_of self.now.lines.items) by.now (has model.old) (vec_len self.now.index.first) }
+        requires { Canonical (vec_len self.now.index.woken) model.old }
+        ensures { model.new ≡ least (rules_of self.now.lines.items) by.now (has model.old) (vec_len self.now.index.woken) }
     {
         derive::derive(self.lines.as_slice(), &self.index, by, model);
     }
 
     // Whether some bar has its plain atoms in `set` and its negated ones outside `by`.
     pub fn bar_holds(&self, set: &[u8], by: &[u8]) -> bool
-        requires { (length set.now ≡ vec_len self.now.index.first) × (length by.now ≡ vec_len self.now.index.first) }
         ensures { result ≡ bar_holds (rules_of self.now.lines.items) set.now by.now }
     {
         body::bar_holds(self.lines.as_slice(), set, by)

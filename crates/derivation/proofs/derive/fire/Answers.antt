@@ -8,7 +8,7 @@ pub push-requires : goal.push-requires
 push-requires c =
     let model = c.args.model.now in
     let h = c.in-Atom.head in
-    let l = head_within (length model) (rule_of c.args.line.now) h c.in-Atom.ensures c.requires.below.0 in
+    let l = head_within (length model) (rule_of c.args.line.now) h c.in-Atom.ensures c.requires.below in
     let z = absent-set model h l c.if-model-head-ne1.true in
     let p = c.requires.room in
     omega arith
@@ -18,7 +18,7 @@ returns-then-body_holds c =
     let model = c.args.model.now in
     let h = c.in-Atom.head in
     let r = rule_of c.args.line.now in
-    let l = head_within (length model) r h c.in-Atom.ensures c.requires.below.0 in
+    let l = head_within (length model) r h c.in-Atom.ensures c.requires.below in
     let z = absent-set model h l c.if-model-head-ne1.true in
     let e = newly_head c.args.by.now model r h c.in-Atom.ensures c.if-model-head-ne1.true c.if-body_holds.ensures in
     let p = c.push.ensures.len in

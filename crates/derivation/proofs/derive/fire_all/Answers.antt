@@ -15,7 +15,7 @@ fire-requires c =
     let p = c.requires.room in
     let i = c.loop-line.invariant in
     record {
-      below = (rule_below_read n c.args.lines.now c.loop-line.line-index c.line-item.result (omega arith) c.line-item.is (subst (λ k. T (all (rule_below k) (rules_of c.args.lines.now))) e c.requires.below.0), omega arith);
+      below = rule_below_read n c.args.lines.now c.loop-line.line-index c.line-item.result (omega arith) c.line-item.is (subst (λ k. T (all (rule_below k) (rules_of c.args.lines.now))) e c.requires.below);
       room = omega arith;
     }
 

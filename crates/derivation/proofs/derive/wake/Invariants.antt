@@ -1,17 +1,12 @@
-use Rattle.std.proofs.Common.{◌≡◌, ℕ, ◌+◌, ◌≤◌, List, length, take, vec_items}
-use Rattle.derivation.specs.Indexing.{Leads}
+use Rattle.std.proofs.Common.{◌≡◌, ◌+◌, ◌≤◌, length, take, drop}
+use Rattle.semantics.specs.Sets.{◌∈◌}
 use Rattle.lines.specs.Lines.{rules_of}
-use Rattle.derivation.specs.Worklist.{absent, Underway}
+use Rattle.derivation.specs.Worklist.{absent, Advances}
 use Rattle.derivation.proofs.derive.wake.Given as goal
 
-abbrev pub invariant-loop-chain : goal.invariant-loop-chain
-invariant-loop-chain l =
-    (l.chain ≤ length (vec_items l.index.cells)) ×
+abbrev pub invariant-loop-number : goal.invariant-loop-number
+invariant-loop-number l =
     (length l.pending.entries.now ≡ length l.initial.pending.entries.now) ×
     (l.pending.len + absent l.model ≡ l.initial.pending.len + absent l.initial.model) ×
     (absent l.model ≤ absent l.initial.model) ×
-    ((bare : List ℕ) → Underway (rules_of l.lines) l.by bare (Leads (vec_items l.index.cells) l.initial.chain) l.initial.model (take l.initial.pending.len l.initial.pending.entries.now) →
-    Underway (rules_of l.lines) l.by bare (Leads (vec_items l.index.cells) l.chain) l.model (take l.pending.len l.pending.entries.now))
-
-abbrev pub decreases-loop-chain : goal.decreases-loop-chain
-decreases-loop-chain l = l.chain
+    Advances (rules_of l.lines) l.by (λ j. j ∈ l.numbers) (λ j. j ∈ drop l.number-index l.numbers) l.initial.model (take l.initial.pending.len l.initial.pending.entries.now) l.model (take l.pending.len l.pending.entries.now)

@@ -1,38 +1,24 @@
-use Rattle.std.proofs.Common.{◌+◌, ltb, get_or, drop, vec_items, vec_len, sym, ap, ◌∙◌, arith, ltb→lt}
-use Rattle.std.proofs.lemmas.List.{at_drop_more, at_drop_all}
+use Rattle.std.proofs.Common.{T, ltb, get_or, take, vec_len, sym, ap, ◌∙◌, subst, arith}
+use Rattle.std.proofs.lemmas.List.{take_more}
 use Rattle.semantics.specs.declared.Literal.{Literal}
 use Rattle.semantics.specs.declared.Side.TheVariants.{Present}
-use Rattle.derivation.specs.Indexing.{chains_of, put_body}
-use Rattle.lines.proofs.Loops.{all-get_or}
+use Rattle.semantics.specs.Sets.{all}
+use Rattle.semantics.proofs.Booleans.{all_taken}
+use Rattle.derivation.specs.Indexing.{lists_of, put_body, put_literal}
+use Rattle.derivation.proofs.Waking.{put_body_push}
 use Rattle.derivation.proofs.index.Index.enter.Goals as goal
 
-pub put-requires : goal.put-requires
-put-requires c =
-    let xs = c.args.body.now in
-    let i = c.loop-literal.literal-index in
-    let d : Literal = record { atom = 0; side = Present } in
-    let n = vec_len c.args.self.now.first in
-    let below = ltb→lt (get_or xs i d).atom n (all-get_or (λ l. ltb l.atom n) xs i d (omega arith) c.requires.0) in
-    let fits = c.requires.1 in
-    let inv = c.loop-literal.invariant in
-    (omega arith, (omega arith, omega arith))
+pub strike-requires : goal.strike-requires
+strike-requires c =
+    let atoms = c.put.ensures.atoms ∙ c.loop-place.invariant.0 in
+    subst (λ n. T (all (λ x. ltb x.atom n) (take c.loop-place.place c.args.body.now))) (sym atoms) (all_taken (λ x. ltb x.atom (vec_len c.args.self.now.woken)) c.loop-place.place c.args.body.now c.requires)
 
-pub loop-literal-preserved : goal.loop-literal-preserved
-loop-literal-preserved c =
+pub loop-place-preserved : goal.loop-place-preserved
+loop-place-preserved c =
     let xs = c.args.body.now in
-    let i = c.loop-literal.literal-index in
-    let d : Literal = record { atom = 0; side = Present } in
-    let inv = c.loop-literal.invariant in
-    let atoms = c.put.ensures.atoms in
-    let len = c.put.ensures.len in
-    let capacity = c.put.ensures.capacity in
-    let step = at_drop_more (λ ls. put_body c.args.number ls (chains_of c.loop-literal.self)) xs i d (omega arith) in
-    (omega arith, omega arith, omega arith, ap (put_body c.args.number (drop (i + 1) xs)) c.put.ensures.chains ∙ sym step ∙ c.loop-literal.invariant.3)
-
-pub returns : goal.returns
-returns c =
-    let ix = c.args.self.now in
-    let number = c.args.number in
-    let xs = c.args.body.now in
-    let end = at_drop_all (λ ls. put_body number ls (chains_of c.loop-literal.self)) xs c.loop-literal.literal-index (omega arith) in
-    record { atoms = c.loop-literal.invariant.0; chains = sym end ∙ c.loop-literal.invariant.3 ∙ ap (λ cs. put_body number xs (record { first = vec_items ix.first; cells = cs })) c.in_ok-reserve.ensures.items }
+    let i = c.loop-place.place in
+    let before = lists_of c.args.self.now in
+    let unused : Literal = record { atom = 0; side = Present } in
+    let x = get_or xs i unused in
+    let more = ap (λ ls. put_body c.args.number ls before) (take_more xs i unused (omega arith)) ∙ put_body_push c.args.number (take i xs) x before in
+    (c.put.ensures.atoms ∙ c.loop-place.invariant.0, c.in_default.ensures.lists ∙ ap (put_literal c.args.number x.side x.atom) c.loop-place.invariant.1 ∙ sym more)

@@ -1,10 +1,8 @@
-use Rattle.std.proofs.Common.{◌≡◌, ◌+◌, ◌-◌, ◌≤◌, length, drop, vec_len, vec_capacity}
-use Rattle.derivation.specs.Indexing.{chains_of, put_body}
+use Rattle.std.proofs.Common.{◌≡◌, take, vec_len}
+use Rattle.derivation.specs.Indexing.{lists_of, put_body}
 use Rattle.derivation.proofs.index.Index.enter.Given as goal
 
-abbrev pub invariant-loop-literal : goal.invariant-loop-literal
-invariant-loop-literal l =
-    (vec_len l.self.first ≡ vec_len l.initial.self.first) ×
-    (vec_len l.self.cells + (length l.body - l.literal-index) ≤ vec_capacity l.self.cells) ×
-    (vec_len l.self.cells ≤ vec_len l.initial.self.cells + l.literal-index) ×
-    (put_body l.number (drop l.literal-index l.body) (chains_of l.self) ≡ put_body l.number l.body (chains_of l.initial.self))
+abbrev pub invariant-loop-place : goal.invariant-loop-place
+invariant-loop-place l =
+    (vec_len l.self.woken ≡ vec_len l.initial.self.woken) ×
+    (lists_of l.self ≡ put_body l.number (take l.place l.body) (lists_of l.initial.self))

@@ -1,8 +1,10 @@
-use Rattle.std.proofs.Common.{◌≡◌, ℕ, take, vec_len}
-use Rattle.derivation.specs.Indexing.{Chains, chains_of, put_body}
+use Rattle.std.proofs.Common.{◌≡◌, ℕ, List, T, ltb, vec_len}
+use Rattle.semantics.specs.Sets.{all}
+use Rattle.derivation.specs.Indexing.{lists_of, put_body}
 use Rattle.derivation.proofs.index.Index.strike.Given as goal
 
-abbrev pub invariant-loop-i : goal.invariant-loop-i
-invariant-loop-i l =
-    (vec_len l.self.first ≡ vec_len l.initial.self.first) ×
-    ((number : ℕ) (before : Chains) → chains_of l.initial.self ≡ put_body number l.body before → chains_of l.self ≡ put_body number (take l.i l.body) before)
+abbrev pub invariant-loop-literal : goal.invariant-loop-literal
+invariant-loop-literal l =
+    (vec_len l.self.woken ≡ vec_len l.initial.self.woken) ×
+    T (all (λ x. ltb x.atom (vec_len l.initial.self.woken)) l.literal-iterator.iter.rest.now) ×
+    ((number : ℕ) (before : List (List ℕ)) → lists_of l.initial.self ≡ put_body number l.body before → lists_of l.self ≡ put_body number l.literal-iterator.iter.rest.now before)
