@@ -167,9 +167,6 @@ module _ (rs : List Rule) (by bare : List ℕ) where
           go Bar e = fire_none (λ b. rw e (λ a z. absurd z))
           go (Atom h) e = fire_atom h e (has model h) (body_holds model by (rule i).body) refl refl
 
-  pub waits_below : (todo : ℕ → Type 0) (model pending : List ℕ) → Underway rs by bare todo model pending → (a : ℕ) → a ∈ pending → a < n
-  waits_below todo model pending u a m = has_below u.canonical a (u.waiting a m)
-
   -- the last atom that waits is used, and the rules that ask for it are to do
   pub take_last : (model pending : List ℕ) (a : ℕ) → Underway rs by bare Nothing model (pending ++ a ∷ []) → (todo : ℕ → Type 0) →
       ((j : ℕ) → j < length rs → T (needs_atom a (rule j)) → todo j) → Underway rs by bare todo model pending

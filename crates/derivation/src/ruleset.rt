@@ -4,12 +4,11 @@
 // else there is. Only entering asks for memory, and it changes nothing where there is none.
 ghost use Rattle.std.specs.Prelude.{◌≡◌, ◌<◌, ◌≤◌, T, [], ◌∷◌, ◌++◌, length, IfOk, vec_len, MatchResult};
 ghost use Rattle.std.specs.Option.{option_to_list};
-ghost use Rattle.semantics.specs.Sets.{has, all, Canonical};
-ghost use Rattle.semantics.specs.Rules.{least, bar_holds, rule_below};
+ghost use Rattle.semantics.specs.Sets.{all};
+ghost use Rattle.semantics.specs.Rules.{bar_holds, rule_below};
 ghost use Rattle.derivation.specs.Indexing.{lists_of, index_of};
 ghost use Rattle.lines.specs.Lines.{rule_of, rules_of};
 
-use crate::derive;
 use crate::index::Index;
 use lines::body;
 use lines::line::Line;
@@ -17,8 +16,8 @@ use std::alloc::{AllocError, Global};
 
 #[derive(Drop)]
 pub struct Ruleset {
-    lines: Vec<Line>,
-    index: Index,
+    pub(crate) lines: Vec<Line>,
+    pub(crate) index: Index,
     ghost narrow: { vec_len index.woken ≤ 256 },
     ghost few: { vec_len lines ≤ 512 },
     ghost below: { T (all (rule_below (vec_len index.woken)) (rules_of lines.items)) },
@@ -76,14 +75,6 @@ impl Ruleset {
         ensures { result.now ≡ self.now.lines.items }
     {
         self.lines.as_slice()
-    }
-
-    // Derives the least model of the reduct by `by`. The model holds the bare atoms at the start.
-    pub fn derive(&self, by: &[u8], model: &mut [u8])
-        requires { Canonical (vec_len self.now.index.woken) model.old }
-        ensures { model.new ≡ least (rules_of self.now.lines.items) by.now (has model.old) (vec_len self.now.index.woken) }
-    {
-        derive::derive(self.lines.as_slice(), &self.index, by, model);
     }
 
     // Whether some bar has its plain atoms in `set` and its negated ones outside `by`.

@@ -1,21 +1,18 @@
-use Rattle.std.proofs.Common.{◌≡◌, T, length, take, subst, arith}
-use Rattle.semantics.specs.Sets.{all}
-use Rattle.semantics.specs.Rules.{rule_below}
+use Rattle.std.proofs.Common.{◌≡◌, length, get_or, take, vec_items, ◌∙◌, subst, arith}
 use Rattle.lines.specs.Lines.{rules_of}
 use Rattle.derivation.specs.Worklist.{From}
 use Rattle.derivation.proofs.Firing.{fire_line, from_more}
-use Rattle.lines.proofs.Reading.{rule_below_read, rules_count}
+use Rattle.lines.proofs.Reading.{rules_count}
+use Rattle.derivation.proofs.Keeping.{line_below}
 use Rattle.derivation.proofs.Working.{all_done}
-use Rattle.derivation.proofs.derive.fire_all.Goals as goal
+use Rattle.derivation.proofs.ruleset.Ruleset.fire_all.Goals as goal
 
 pub fire-requires : goal.fire-requires
 fire-requires c =
-    let n = length c.loop-line.model in
-    let e : length c.args.model.now ≡ n = omega arith in
     let p = c.requires.room in
     let i = c.loop-line.invariant in
     record {
-      below = rule_below_read n c.args.lines.now c.loop-line.line-index c.line-item.result (omega arith) c.line-item.is (subst (λ k. T (all (rule_below k) (rules_of c.args.lines.now))) e c.requires.below);
+      below = line_below c.args.self.now (length c.loop-line.model) c.loop-line.line-index c.line-item.result (c.loop-line.auto.model ∙ c.requires.atoms) (omega arith) (subst (λ xs. c.line-item.result ≡ get_or xs c.loop-line.line-index c.line-item.result) c.deref-line-items.ensures.value c.line-item.is);
       room = omega arith;
     }
 
@@ -28,13 +25,13 @@ loop-line-preserved c =
       omega arith,
       omega arith,
       λ bare u.
-          fire_line c.args.lines.now c.args.by.now i c.line-item.result (omega arith) c.line-item.is (From i) _ (from_more i)
+          fire_line (vec_items c.args.self.now.lines) c.args.by.now i c.line-item.result (omega arith) (subst (λ xs. c.line-item.result ≡ get_or xs i c.line-item.result) c.deref-line-items.ensures.value c.line-item.is) (From i) _ (from_more i)
           c.loop-line.model (take c.loop-line.pending.len c.loop-line.pending.entries.now) _ _ c.fire.ensures.model c.fire.ensures.held bare (c.loop-line.invariant.2 bare u),
     )
 
 pub returns : goal.returns
 returns c =
-    let ls = c.args.lines.now in
+    let ls = vec_items c.args.self.now.lines in
     let i = c.loop-line.line-index in
     record {
       size = c.loop-line.invariant.0;
