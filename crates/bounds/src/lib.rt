@@ -1,4 +1,4 @@
-// Bounds on all plans, and the test for a plan.
+// Bounds on all plans of a program, and the test for a plan.
 //
 // The bank of modules is queried at a set, or at a pair of sets (`bank`). One round narrows a pair
 // of sure and possible atoms from what the bank gives (`round`), under marks that hold atoms to a
@@ -9,6 +9,8 @@
 mod bank;
 mod marks;
 pub mod narrow;
+pub mod pair;
 pub mod plan_test;
+pub mod program;
 mod round;
-mod sets;
+pub mod sets;
