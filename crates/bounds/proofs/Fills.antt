@@ -5,7 +5,7 @@ use Rattle.std.proofs.lemmas.List.{get_or_past, get_or-set_other}
 use Rattle.std.proofs.lemmas.Bool.{cases_lt}
 use Rattle.semantics.specs.Sets.{tabled, Canonical}
 use Rattle.semantics.proofs.Bytes.{bit, bit_small, tabled_canonical, same_canonical}
-use Rattle.bounds.proofs.Tables.{has-tabled, bit_test}
+use Rattle.semantics.proofs.Bytes.{has-tabled, bit_test}
 
 -- the bytes below i are those of the test, and the others are as they were
 abbrev pub Filled : (ℕ → Bool) → ℕ → List ℕ → Type 0

@@ -2,7 +2,8 @@
 use Rattle.std.proofs.Common.{◌≡◌, ℕ, zero, suc, ◌<◌, Bool, ◌||◌, List, refl, ap, ◌∙◌}
 use Rattle.semantics.specs.Sets.{has, tabled}
 use Rattle.semantics.specs.Rules.{Rule, derives, follows, step, steps, least}
-use Rattle.bounds.proofs.Tables.{has-tabled, tabled_alike}
+use Rattle.semantics.proofs.Bytes.{has-tabled}
+use Rattle.bounds.proofs.Tables.{tabled_alike}
 
 module _ (rs : List Rule) (by : List ℕ) (f g : ℕ → Bool) (n : ℕ) (alike : (a : ℕ) → a < n → f a ≡ g a) where
   steps_alike : (k : ℕ) → steps rs by f n k ≡ steps rs by g n k

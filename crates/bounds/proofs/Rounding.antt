@@ -9,7 +9,7 @@ use Rattle.semantics.specs.Alternating.{Pair, Marks, is_present, is_absent, sure
 use Rattle.semantics.proofs.Bytes.{tabled_canonical}
 use Rattle.semantics.proofs.LeastModel.{least_canonical}
 use Rattle.bounds.specs.Rounds.{pair, rounded, bank_alone}
-use Rattle.bounds.proofs.Tables.{has-tabled}
+use Rattle.semantics.proofs.Bytes.{has-tabled}
 use Rattle.bounds.proofs.Leasts.{least_alike, least_tabled}
 
 pub pair_same : {s t u v : List ℕ} → s ≡ t → u ≡ v → pair s u ≡ pair t v

@@ -1,16 +1,9 @@
 -- Sets written from a test: when two are one, and what one more atom makes of one.
-use Rattle.std.proofs.Common.{◌≡◌, ℕ, zero, suc, ◌<◌, Bool, true, false, ◌||◌, T, eqb, [], ◌∷◌, ◌++◌, ◌+◌, List, length, set, replicate, sym, refl, ap, ◌∙◌, inl, inr, arith, add-one, eqb→eq}
+use Rattle.std.proofs.Common.{◌≡◌, ℕ, zero, suc, ◌<◌, Bool, false, ◌||◌, T, eqb, [], ◌∷◌, ◌++◌, ◌+◌, List, length, set, replicate, sym, refl, ap, ◌∙◌, inl, inr, arith, add-one, eqb→eq}
 use Rattle.std.proofs.lemmas.Bool.{eq-eqb}
 use Rattle.semantics.specs.Sets.{has, tabled}
 use Rattle.semantics.proofs.Booleans.{holds, same_tests, or_left, or_right, or_cases}
-use Rattle.semantics.proofs.Bytes.{bit, tabled_canonical, tabled_has, tabled_passes, set_canonical, same_canonical, has-set, set_cases, set_more}
-
-pub bit_test : (b : Bool) → eqb (bit b) 1 ≡ b
-bit_test true = refl
-bit_test false = refl
-
-pub has-tabled : (f : ℕ → Bool) (n a : ℕ) → a < n → has (tabled f 0 n) a ≡ f a
-has-tabled f n a l = same_tests (has (tabled f 0 n) a) (f a) (tabled_passes f n a) (tabled_has f n a l)
+use Rattle.semantics.proofs.Bytes.{bit, has-tabled, tabled_canonical, tabled_has, tabled_passes, set_canonical, same_canonical, has-set, set_cases, set_more}
 
 -- tests that agree below n write one set
 pub tabled_alike : (f g : ℕ → Bool) (n : ℕ) → ((a : ℕ) → a < n → f a ≡ g a) → tabled f 0 n ≡ tabled g 0 n

@@ -1,4 +1,4 @@
-use Rattle.std.proofs.Common.{ℕ, Bool, not, ◌&&◌, ◌||◌, length, sym, ap, ◌∙◌, subst}
+use Rattle.std.proofs.Common.{ℕ, Bool, not, ◌&&◌, ◌||◌, sym, ap, ◌∙◌, subst}
 use Rattle.semantics.specs.Sets.{has, tabled, Canonical}
 use Rattle.semantics.specs.Rules.{least}
 use Rattle.semantics.specs.Alternating.{marks_in, is_present, is_absent}
@@ -13,7 +13,7 @@ derive-requires c =
     let n = atoms_in c.args.rules.now in
     let bare : ℕ → Bool = λ a. has c.args.sure.now a || is_present (marks_in c.args.marks.now a) in
     let held = c.hold.ensures ∙ ap (tabled bare 0) c.requires.marks in
-    (ap length c.deref.ensures.0 ∙ c.args.bounds.now.alike ∙ c.requires.bounds, subst (Canonical n) (sym held) (tabled_canonical bare n))
+    subst (Canonical n) (sym held) (tabled_canonical bare n)
 
 pub returns : goal.returns
 returns c =

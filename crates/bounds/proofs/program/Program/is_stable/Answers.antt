@@ -13,7 +13,7 @@ derive-requires g c =
     let given = gives (g.M.Module.meaning c.args.self.now.bank.now) c.args.set.now in
     let n = atoms_in c.args.self.now.rules.now in
     let filled = c.as_mut_slice.ensures.value ∙ c.query_at-model.ensures ∙ ap (tabled given 0) c.requires in
-    (c.requires, subst (Canonical n) (sym filled) (tabled_canonical given n))
+    subst (Canonical n) (sym filled) (tabled_canonical given n)
 
 pub returns : goal.returns
 returns g c =
