@@ -1,24 +1,21 @@
 -- What the lowest atom of one set beyond another tells of the two.
-use Rattle.std.proofs.Common.{◌≡◌, ℕ, ◌<◌, ◌≤◌, false, not, T, eqb, List, length, is_some, Some, None, Option, sym, subst, inl, inr, arith}
+use Rattle.std.proofs.Common.{◌≡◌, ℕ, ◌<◌, false, not, T, eqb, List, length, is_some, Some, None, Option, sym, subst, inl, inr, arith}
 use lib.Dec.{not_T, T_not}
 use Rattle.std.proofs.lemmas.List.{get_or_past}
 use Rattle.std.proofs.lemmas.Bool.{cases_order}
 use Rattle.semantics.specs.Sets.{has, some_below, ◌⊆◌}
 use Rattle.semantics.specs.Alternating.{Pair, clashes}
 use Rattle.semantics.proofs.Booleans.{true_from, false_from, holds, fails, and_from, and_left, and_right, some_from, some_found, decided}
-use Rattle.bounds.specs.Beyond.{WithinBelow, FirstBeyond}
+use Rattle.bounds.specs.Beyond.{FirstBeyond}
 
 -- a set has no atom past its bytes
-pub has_within : (s : List ℕ) (a : ℕ) → T (has s a) → a < length s
+has_within : (s : List ℕ) (a : ℕ) → T (has s a) → a < length s
 has_within s a h =
     elim (cases_order a (length s)) [
       | inl same ↦ absurd (subst (λ b. T (eqb b 1)) (get_or_past s a 0 (omega (arith, same))) h)
       | inr (inl less) ↦ less
       | inr (inr more) ↦ absurd (subst (λ b. T (eqb b 1)) (get_or_past s a 0 (omega (arith, more))) h)
     ]
-
-pub within_all : (s t : List ℕ) (n : ℕ) → length s ≤ n → WithinBelow n s t → s ⊆ t
-within_all s t n l h a member = let below = has_within s a member in h a (omega arith) member
 
 module _ (q : Pair) where
   calm : (n : ℕ) → q.sure ⊆ q.possible → some_below n (clashes q) ≡ false

@@ -1,5 +1,5 @@
 -- Sets written from a test: when two are one, and what one more atom makes of one.
-use Rattle.std.proofs.Common.{◌≡◌, ℕ, zero, suc, ◌<◌, Bool, false, ◌||◌, T, eqb, [], ◌∷◌, ◌++◌, ◌+◌, List, length, set, replicate, sym, refl, ap, ◌∙◌, inl, inr, arith, add-one, eqb→eq}
+use Rattle.std.proofs.Common.{◌≡◌, ℕ, zero, suc, ◌<◌, Bool, false, ◌||◌, T, eqb, [], ◌∷◌, ◌++◌, ◌+◌, List, length, set, sym, refl, ap, ◌∙◌, inl, inr, arith, add-one, eqb→eq}
 use Rattle.std.proofs.lemmas.Bool.{eq-eqb}
 use Rattle.semantics.specs.Sets.{has, tabled}
 use Rattle.semantics.proofs.Booleans.{holds, same_tests, or_left, or_right, or_cases}
@@ -8,10 +8,6 @@ use Rattle.semantics.proofs.Bytes.{bit, has-tabled, tabled_canonical, tabled_has
 -- tests that agree below n write one set
 pub tabled_alike : (f g : ℕ → Bool) (n : ℕ) → ((a : ℕ) → a < n → f a ≡ g a) → tabled f 0 n ≡ tabled g 0 n
 tabled_alike f g n alike = same_canonical (tabled_canonical f n) (tabled_canonical g n) (λ a l. has-tabled f n a l ∙ alike a l ∙ sym (has-tabled g n a l))
-
-pub tabled_none : (i n : ℕ) → replicate n 0 ≡ tabled (λ a. false) i n
-tabled_none i zero = refl
-tabled_none i (suc n) = ap (λ s. 0 ∷ s) (tabled_none (suc i) n)
 
 -- one atom more
 tabled_last : (f : ℕ → Bool) (i n : ℕ) → tabled f i (suc n) ≡ tabled f i n ++ bit (f (i + n)) ∷ []

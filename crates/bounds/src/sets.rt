@@ -1,4 +1,4 @@
-// Sets of atoms as bytes, 1 for present and 0 for absent: emptied, filled, and compared.
+// Sets of atoms as bytes, 1 for present and 0 for absent: made empty, added to, and compared.
 ghost use Rattle.std.specs.Prelude.{◌≡◌, ◌≤◌, false, length, slice_set};
 ghost use Rattle.semantics.specs.Sets.{same, tabled};
 ghost use Rattle.bounds.specs.Beyond.{FirstBeyond};
@@ -42,9 +42,8 @@ pub(crate) fn first_beyond(set: &[u8], other: &[u8]) -> Option<u16>
     requires alike { length other.now ≡ length set.now }
     ensures { FirstBeyond set.now other.now result }
 {
-    let atom = set
-        .iter()
+    set.iter()
         .zip(other)
-        .position(|(byte, beyond)| *byte == 1 && *beyond != 1)?;
-    Some(atom as u16)
+        .position(|(byte, beyond)| *byte == 1 && *beyond != 1)
+        .map(|atom| atom as u16)
 }

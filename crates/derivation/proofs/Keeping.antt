@@ -10,7 +10,7 @@ use Rattle.derivation.specs.Indexing.{lists_of, put_body, index_of, Indexed}
 use Rattle.derivation.specs.Rulesets.{rules_in, atoms_in}
 use Rattle.lines.specs.Lines.{rule_of, rules_of}
 use Rattle.derivation.proofs.Waking.{indexed, index_push}
-use Rattle.derivation.proofs.Working.{at_place}
+use Rattle.semantics.proofs.Members.{at_place}
 use Rattle.lines.proofs.Reading.{rules_count, rule_below_read}
 
 -- every rule, and the last one

@@ -12,18 +12,13 @@ use Rattle.semantics.specs.Rules.{Rule, literal_holds, body_holds, heads, derive
 use Rattle.semantics.proofs.Booleans.{or_cases, or_left, or_right, and_left, and_right, and_from, fails, holds, all_each, any_from}
 use Rattle.semantics.proofs.Bytes.{has_below, has-set, set_canonical, set_more, set_cases}
 use Rattle.semantics.proofs.LeastModel.{body_mono, heads_below, least_step, is_least}
-use Rattle.semantics.proofs.Members.{in_append_left, in_append_right, in_append_cases}
+use Rattle.semantics.proofs.Members.{at_place, in_append_left, in_append_right, in_append_cases}
 use Rattle.lines.specs.Lines.{no_rule}
 use Rattle.derivation.specs.Indexing.{plainly, needs_atom}
 use Rattle.derivation.specs.Worklist.{due, newly, joined_by, HasHead, Underway, From, Nothing}
 
--- an element has a place
+-- an element that passes has a place
 module _ {A : Type 0} (d : A) where
-  pub at_place : (xs : List A) (i : ℕ) → i < length xs → get_or xs i d ∈ xs
-  at_place [] i l = absurd (omega arith)
-  at_place (x ∷ xs) zero l = inl refl
-  at_place (x ∷ xs) (suc i) l = inr (at_place xs i (omega arith))
-
   any_placed : (p : A → Bool) (xs : List A) → T (any p xs) → (i : ℕ) × (i < length xs) × T (p (get_or xs i d))
   any_placed p [] h = absurd h
   any_placed p (x ∷ xs) h = elim (or_cases (p x) (any p xs) h) [
