@@ -23,9 +23,6 @@ not_full p cs cs' set Running k = refl
 not_full p cs cs' set Ended k = refl
 not_full p cs cs' set Full k = k.0
 
--- the search goes on alike over as many atoms and the same choices
-pub goes_on_alike : (l : Listing) (bank : Meaning) (rules : List Rule) (set : List ℕ) (found : Bool) {n n' : ℕ} {cs cs' ds ds' : List Literal} → n ≡ n' → cs ≡ cs' → ds ≡ ds' →
-    GoesOn l (over bank n rules) cs ds set found → GoesOn l (over bank n' rules) cs' ds' set found
-goes_on_alike l bank rules set found {n} {n'} {cs} {cs'} {ds} {ds'} e f g h =
-    subst (λ n. GoesOn l (over bank n rules) cs' ds' set found) e
-    (subst (λ cs. GoesOn l (over bank n rules) cs ds' set found) f (subst (λ ds. GoesOn l (over bank n rules) cs ds set found) g h))
+-- the search goes on alike over as many atoms
+pub goes_on_alike : (l : Listing) (bank : Meaning) (rules : List Rule) (cs cs' : List Literal) (set : List ℕ) (found : Bool) {n n' : ℕ} → n ≡ n' → GoesOn l (over bank n rules) cs cs' set found → GoesOn l (over bank n' rules) cs cs' set found
+goes_on_alike l bank rules cs cs' set found e = subst (λ n. GoesOn l (over bank n rules) cs cs' set found) e

@@ -1,8 +1,9 @@
 -- How a call's promise is met: by a refusal, by a fresh start, and by an answer that changes nothing.
-use Rattle.std.proofs.Common.{◌≡◌, ℕ, ◌<◌, true, ◌&&◌, eqb, ltb, List, [], length, get_or, take, replicate, is_some, Some, None, Option, sym, refl, ap, ◌∙◌, subst, ap₂, arith}
+use Rattle.std.proofs.Common.{◌≡◌, ℕ, ◌<◌, true, ◌&&◌, eqb, ltb, List, [], length, get_or, take, replicate, is_some, Some, None, Option, vec_items, sym, refl, ap, ◌∙◌, subst, ap₂, arith}
 use lib.ListN.{get_or-replicate}
 use Rattle.std.proofs.lemmas.Bool.{lt-ltb}
 use Rattle.std.proofs.lemmas.List.{take_all}
+use Rattle.std.proofs.lemmas.Option.{none-some}
 use Rattle.semantics.specs.Rules.{Rule}
 use Rattle.semantics.specs.Banks.{Meaning}
 use Rattle.semantics.specs.Plans.{WellFormed, plans, held}
@@ -10,12 +11,14 @@ use Rattle.semantics.specs.Sheets.{State, atoms, program, Call, tell, Answer, re
 use Rattle.semantics.specs.Sheets as model
 use Rattle.sheet.specs.Contents.{Contents, state_of, in_force, anew, Stands, Sound}
 use Rattle.sheet.specs.Calls.{Called, refusal, Made}
-
-no_none : {A : Type 0} (x : A) → ◌≡◌ {A = Option A} None (Some x) → ⊥
-no_none x e = let z : ◌≡◌ {A = ℕ} 0 1 = cc in omega arith
+use Rattle.sheet.specs.Laying.{Parted}
+use Rattle.sheet.specs.declared.parts.Parts.{Parts}
+use Rattle.derivation.specs.Rulesets.{rules_in}
+use Rattle.listing.specs.declared.choices.Choices.{Choices}
+use Rattle.listing.specs.Seeking.{newest_of, opened}
 
 replies_refused : (o : Option Flaw) (st : State) (c : Call) (f : Flaw) → o ≡ Some f → Replies o st c (refused f)
-replies_refused None st c f e = absurd (no_none f e)
+replies_refused None st c f e = absurd (none-some f e)
 replies_refused (Some x) st c f e = cc
 
 stays : (o : Option Flaw) (st st' : State) (f : Flaw) → o ≡ Some f → st ≡ elim o [ None ↦ st' | Some x ↦ st ]
@@ -28,7 +31,7 @@ moves (Some x) st st' e = cc
 
 replies_accepted : (o : Option Flaw) (st : State) (c : Call) (r : Answer) → o ≡ None → Accepts st c r → Replies o st c r
 replies_accepted None st c r e h = h
-replies_accepted (Some x) st c r e h = absurd (no_none x (sym e))
+replies_accepted (Some x) st c r e h = absurd (none-some x (sym e))
 
 -- a fresh listing is sound
 anew_sound : (bank : Meaning) (levels : List ℕ) (rules : List Rule) → (0 < length levels → WellFormed (in_force bank (anew levels rules))) → Sound bank (anew levels rules)
@@ -112,6 +115,11 @@ tallies_all bank s a h l e is k =
     ap₂ (λ h n. record { held = h; all = n; brave = ltb 0 h; cautious = eqb h n && ltb 0 n }) held_is every
 
 -- contents with a fresh listing
-pub anew_is : (levels levels' : List ℕ) (rules rules' : List Rule) (tallies : List ℕ) → levels' ≡ levels → rules' ≡ rules → tallies ≡ replicate (length levels) 0 →
-    ◌≡◌ {A = Contents} (record { levels = levels'; rules = rules'; listing = Fresh; handed = 0; tallies = tallies; opened = [] }) (anew levels rules)
-anew_is levels levels' rules rules' tallies l r t = cc
+pub anew_is : (levels levels' : List ℕ) (rules rules' : List Rule) (tallies : List ℕ) (choices : Choices) → levels' ≡ levels → rules' ≡ rules → tallies ≡ replicate (length levels) 0 → choices.depth ≡ 0 →
+    ◌≡◌ {A = Contents} (record { levels = levels'; rules = rules'; listing = Fresh; handed = 0; tallies = tallies; opened = opened choices }) (anew levels rules)
+anew_is levels levels' rules rules' tallies choices l r t c = let none : opened choices ≡ [] = ap (λ d. newest_of d (vec_items choices.room)) c in cc
+
+-- what is laid with levels has a fresh listing
+pub laid_anew : (levels : List ℕ) (p : Parts) → Parted levels p →
+    ◌≡◌ {A = Contents} (record { levels = vec_items p.levels; rules = rules_in p.rules; listing = Fresh; handed = 0; tallies = vec_items p.tallies; opened = opened p.choices }) (anew levels [])
+laid_anew levels p is = anew_is levels (vec_items p.levels) [] (rules_in p.rules) (vec_items p.tallies) p.choices is.levels_are is.no_rules is.tallies_are is.none_open

@@ -8,10 +8,10 @@ use Rattle.sheet.proofs.paper.Sheet.restart.Goals as goal
 pub returns : goal.returns
 returns g c =
     let s = c.args.self.now in
-    let e : length c.clear.new.tallies ≡ vec_len s.tallies = c.clear.auto.tallies ∙ c.as_mut_slice.ensures.len in
-    let n : length c.as_mut_slice.result.now ≡ length (vec_items s.levels) = omega (arith, s.tallied, s.levels.ok.0, c.as_mut_slice.ensures.len) in
+    let e : length c.clear.new.tallies ≡ vec_len s.parts.tallies = c.clear.auto.tallies ∙ c.as_mut_slice.ensures.len in
+    let n : length c.as_mut_slice.result.now ≡ length (vec_items s.parts.levels) = omega (arith, s.parts.tallied, s.parts.levels.ok.0, c.as_mut_slice.ensures.len) in
     record {
       same = search rules;
-      fresh = anew_is (vec_items s.levels) (vec_items s.levels) (rules_in s.rules) (rules_in s.rules) (with_items s.tallies c.clear.new.tallies).items
-          refl refl (with_items_is s.tallies c.clear.new.tallies e ∙ c.clear.ensures ∙ ap (λ k. replicate k 0) n);
+      fresh = anew_is (vec_items s.parts.levels) (vec_items s.parts.levels) (rules_in s.parts.rules) (rules_in s.parts.rules) (with_items s.parts.tallies c.clear.new.tallies).items c.close.new.self
+          refl refl (with_items_is s.parts.tallies c.clear.new.tallies e ∙ c.clear.ensures ∙ ap (λ k. replicate k 0) n) c.close.ensures.none;
     }
