@@ -1,33 +1,25 @@
 -- A position is settled where it reads none of the unknown atoms.
-use Rattle.std.proofs.Common.{◌≡◌, ℕ, zero, suc, ◌+◌, Bool, true, false, cond, not, ◌&&◌, ◌||◌, List, [], ◌∷◌, ◌++◌, sym, refl, ap, ◌∙◌, add-one}
+use Rattle.std.proofs.Common.{◌≡◌, ℕ, zero, suc, ◌+◌, Bool, true, false, cond, not, ◌&&◌, ◌||◌, List, [], ◌∷◌, ◌++◌, length, length-append, ◌≤◌, arith, sym, refl, ap, ◌∙◌, add-one}
 use mathlib.Core.Path.{fun_ext}
 use Rattle.std.proofs.lemmas.List.{append-nil}
-use Rattle.semantics.specs.Sets.{all, each_below, tabled}
+use Rattle.std.specs.List.{list_all}
+use Rattle.std.proofs.Math.Bool.{or-true}
+use Rattle.std.proofs.lemmas.List.Folds.{list_all-append}
+use Rattle.semantics.specs.Sets.{each_below, tabled}
 use Rattle.semantics.specs.Banks.{Meaning, some_output}
 use Rattle.semantics.specs.Alternating.{Pair, known, surely, possibly}
 use Rattle.bounds.specs.Rounds.{bank_alone}
 use Rattle.bounds.specs.Unknown.{unknown_atoms, reads_none}
 
-swapped : (x y z : Bool) → (x && (y && z)) ≡ (y && (x && z))
-swapped true y z = refl
-swapped false true z = refl
-swapped false false z = refl
-
-or_true : (x : Bool) → (x || true) ≡ true
-or_true true = refl
-or_true false = refl
-
-or_false : (x : Bool) → (x || false) ≡ x
-or_false true = refl
-or_false false = refl
-
-all_last : (f : ℕ → Bool) (xs : List ℕ) (x : ℕ) → all f (xs ++ x ∷ []) ≡ (f x && all f xs)
-all_last f [] x = refl
-all_last f (y ∷ ys) x = ap (λ b. f y && b) (all_last f ys x) ∙ swapped (f y) (f x) (all f ys)
-
-all_push : (f : ℕ → Bool) (xs : List ℕ) (b : Bool) (x : ℕ) → all f (xs ++ cond b [] (x ∷ [])) ≡ ((f x || b) && all f xs)
-all_push f xs true x = ap (all f) (append-nil xs) ∙ ap (λ b. b && all f xs) (sym (or_true (f x)))
-all_push f xs false x = all_last f xs x ∙ ap (λ b. b && all f xs) (sym (or_false (f x)))
+all_push : (f : ℕ → Bool) (xs : List ℕ) (b : Bool) (x : ℕ) → list_all f (xs ++ cond b [] (x ∷ [])) ≡ ((f x || b) && list_all f xs)
+all_push f xs true x = ap (list_all f) (append-nil xs) ∙ ap (λ b. b && list_all f xs) (sym (or-true (f x)))
+all_push f xs false x = list_all-append f xs (x ∷ []) ∙ swapped (list_all f xs) (f x)
+  where
+    swapped : (y z : Bool) → (y && (z && true)) ≡ ((z || false) && y)
+    swapped true true = refl
+    swapped true false = refl
+    swapped false true = refl
+    swapped false false = refl
 
 settled_where : (m : Meaning) (q : Pair) (k n : ℕ) → reads_none m (unknown_atoms q n) k ≡ each_below n (λ a. not (m.reads k a) || known q a)
 settled_where m q k zero = refl
@@ -50,3 +42,12 @@ module _ (q : Pair) (i : ℕ) where
 
   pub unknown_more : known q i ≡ false → unknown_atoms q (i + 1) ≡ unknown_atoms q i ++ i ∷ []
   unknown_more e = rw add-one (ap (λ b. unknown_atoms q i ++ cond b [] (i ∷ [])) e)
+
+  one_at_most : (b : Bool) → length (cond b [] (i ∷ [])) ≤ 1
+  one_at_most true = omega arith
+  one_at_most false = omega arith
+
+-- there are no more of them than atoms
+pub unknown_few : (q : Pair) (n : ℕ) → length (unknown_atoms q n) ≤ n
+unknown_few q zero = omega arith
+unknown_few q (suc n) = omega (arith, unknown_few q n, one_at_most q n (known q n), length-append (unknown_atoms q n) (cond (known q n) [] (n ∷ [])))

@@ -7,5 +7,5 @@ mod Knowing
 mod Standings
 mod Sames
 mod Rounding
-mod Clashing
+pub mod Beyond
 mod Ending

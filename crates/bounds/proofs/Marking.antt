@@ -16,10 +16,10 @@ absent_of true y h = sym (h refl)
 absent_of false true h = refl
 absent_of false false h = refl
 
-pub present_byte : (b : ℕ) → is_present (mark_in b) ≡ eqb b 1
+present_byte : (b : ℕ) → is_present (mark_in b) ≡ eqb b 1
 present_byte b = present_of (eqb b 1) (eqb b 2)
 
-pub absent_byte : (b : ℕ) → is_absent (mark_in b) ≡ eqb b 2
+absent_byte : (b : ℕ) → is_absent (mark_in b) ≡ eqb b 2
 absent_byte b = absent_of (eqb b 1) (eqb b 2) (λ t. let e = eqb-true b 1 t in ne_eqb b 2 (λ f. omega arith))
 
 -- what the code writes for a test

@@ -1,5 +1,5 @@
 -- A round from what the bank was found to give is a round of narrowing.
-use Rattle.std.proofs.Common.{◌≡◌, ℕ, ◌<◌, not, ◌&&◌, ◌||◌, List, sym, ap, ◌∙◌, subst}
+use Rattle.std.proofs.Common.{◌≡◌, ℕ, ◌<◌, not, ◌&&◌, ◌||◌, List, length, sym, ap, ◌∙◌, subst}
 use Rattle.std.proofs.lemmas.Bool.{lt-ltb}
 use Rattle.semantics.specs.Sets.{has, tabled, Canonical}
 use Rattle.semantics.specs.Rules.{Rule, least}
@@ -7,6 +7,7 @@ use Rattle.semantics.specs.Banks.{Meaning}
 use Rattle.semantics.specs.Plans.{Program, over}
 use Rattle.semantics.specs.Alternating.{Pair, Marks, is_present, is_absent, surely, possibly, surely_or_held, narrowed}
 use Rattle.semantics.proofs.Bytes.{tabled_canonical}
+use Rattle.semantics.proofs.LeastModel.{least_canonical}
 use Rattle.bounds.specs.Rounds.{pair, rounded, bank_alone}
 use Rattle.bounds.proofs.Tables.{has-tabled}
 use Rattle.bounds.proofs.Leasts.{least_alike, least_tabled}
@@ -41,3 +42,7 @@ module _ (bank : Meaning) (rules : List Rule) (n k : ℕ) (q : Pair) (size : k �
   pub rounded_narrowed : (marks : Marks) (given r : Pair) → given.sure ≡ tabled (surely (bank_alone bank k) q) 0 k → given.possible ≡ tabled (possibly (bank_alone bank k) q) 0 k →
       r ≡ rounded rules n marks given q → r ≡ narrowed (over bank n rules) marks q
   rounded_narrowed marks given r e f h = h ∙ rounded_narrows (over bank n rules) marks given q (e ∙ surely_by) (f ∙ possibly_by)
+
+-- and it leaves as many atoms
+pub rounded_size : (rules : List Rule) (n : ℕ) (marks : Marks) (given q : Pair) → length (rounded rules n marks given q).sure ≡ n
+rounded_size rules n marks given q = (least_canonical rules q.possible (λ a. has given.sure a || is_present (marks a)) n).size

@@ -1,6 +1,6 @@
 -- The atoms on which the sets between two bounds may differ.
 use Rattle.std.specs.Prelude.{ℕ, zero, suc, Bool, cond, not, List, [], ◌∷◌, ◌++◌}
-use Rattle.semantics.specs.Sets.{all}
+use Rattle.std.specs.List.{list_all}
 use Rattle.semantics.specs.Banks.{Meaning}
 use Rattle.semantics.specs.Alternating.{Pair, known}
 
@@ -11,4 +11,4 @@ unknown_atoms q (suc n) = unknown_atoms q n ++ cond (known q n) [] (n ∷ [])
 
 -- a position reads none of these atoms
 abbrev pub reads_none : Meaning → List ℕ → ℕ → Bool
-reads_none m atoms k = all (λ a. not (m.reads k a)) atoms
+reads_none m atoms k = list_all (λ a. not (m.reads k a)) atoms

@@ -1,48 +1,32 @@
 // Querying the bank: which atoms its positions give at a full set, and which they surely or possibly
 // give at the sets between two bounds. A position is settled if it reads no atom that is possible and
 // not sure: it is then given at all of these sets or at none.
-ghost use Rattle.std.specs.Prelude.{◌≡◌, ◌≤◌, not, ◌&&◌, ◌||◌, length, take};
+ghost use Rattle.std.specs.Prelude.{◌≡◌, ◌≤◌, length};
 ghost use Rattle.semantics.specs.Sets.{tabled};
-ghost use Rattle.semantics.specs.Banks.{gives, some_output};
+ghost use Rattle.semantics.specs.Banks.{gives};
 ghost use Rattle.semantics.specs.Alternating.{surely, possibly};
-ghost use Rattle.bounds.specs.Rounds.{pair, bank_alone};
+ghost use Rattle.bounds.specs.Pairs.{pair_of, atoms_of};
+ghost use Rattle.bounds.specs.Rounds.{bank_alone};
 ghost use Rattle.bounds.specs.Unknown.{unknown_atoms, reads_none};
 ghost use Rattle.bounds.specs.Ends.{standing_of};
 
-use crate::sets::clear;
+use crate::pair::Bounds;
+use crate::sets::{Set, none, put};
+use arrayvec::ArrayVec;
 use modules::query::Module;
 
 // The atoms that the bank gives at a full set.
-pub(crate) fn query_at<M: Module>(bank: &M, set: &[u8], outputs: &mut [u8])
-    ensures { outputs.new ≡ tabled (gives (M.Module.meaning bank.now) set.now) 0 (length outputs.old) }
+pub(crate) fn query_at<M: Module>(bank: &M, set: &[u8]) -> Set
+    requires { length set.now ≤ 256 }
+    ensures { result.items ≡ tabled (gives (M.Module.meaning bank.now) set.now) 0 (length set.now) }
 {
-    clear(outputs);
+    let mut outputs = none(set.len());
     for position in 0..bank.outputs() {
         if bank.given(position, set) {
-            let atom = bank.atom(position) as usize;
-            if atom < outputs.len() {
-                outputs[atom] = 1;
-            }
+            put(&mut outputs, bank.atom(position));
         }
     }
-}
-
-// The atoms that the bank surely and possibly gives at the sets between `sure` and `possible`.
-pub(crate) fn query_between<M: Module>(
-    bank: &M,
-    sure: &[u8],
-    possible: &[u8],
-    sure_given: &mut [u8],
-    possible_given: &mut [u8],
-)
-    requires sizes { (length possible.now ≡ length sure.now) × (length sure.now ≤ 256) }
-    requires givens { (length sure_given.old ≡ length sure.now) × (length possible_given.old ≡ length sure.now) }
-    ensures sure { sure_given.new ≡ tabled (surely (bank_alone (M.Module.meaning bank.now) (length sure.now)) (pair sure.now possible.now)) 0 (length sure.now) }
-    ensures possible { possible_given.new ≡ tabled (possibly (bank_alone (M.Module.meaning bank.now) (length sure.now)) (pair sure.now possible.now)) 0 (length sure.now) }
-{
-    let mut room = [0u16; 256];
-    let count = list_unknown(sure, possible, &mut room[..]);
-    query_positions(bank, sure, &room[0..count], sure_given, possible_given);
+    outputs
 }
 
 // How a position stands between the bounds: given at every set, at some perhaps, or at none.
@@ -53,33 +37,26 @@ pub(crate) enum Standing {
     Never,
 }
 
-// Queries each position once, where these atoms are possible and not sure.
-fn query_positions<M: Module>(
-    bank: &M,
-    sure: &[u8],
-    unknown: &[u16],
-    sure_given: &mut [u8],
-    possible_given: &mut [u8],
-)
-    requires { length possible_given.old ≡ length sure_given.old }
-    ensures sure { sure_given.new ≡ tabled (some_output (M.Module.meaning bank.now) (λ k. reads_none (M.Module.meaning bank.now) unknown.now k && (M.Module.meaning bank.now).given k sure.now)) 0 (length sure_given.old) }
-    ensures possible { possible_given.new ≡ tabled (some_output (M.Module.meaning bank.now) (λ k. not (reads_none (M.Module.meaning bank.now) unknown.now k) || (M.Module.meaning bank.now).given k sure.now)) 0 (length sure_given.old) }
+// The atoms that the bank surely and possibly gives at the sets between the bounds. Each position is queried once.
+pub(crate) fn query_between<M: Module>(bank: &M, bounds: &Bounds) -> Bounds
+    ensures sure { result.sure.items ≡ tabled (surely (bank_alone (M.Module.meaning bank.now) (atoms_of bounds.now)) (pair_of bounds.now)) 0 (atoms_of bounds.now) }
+    ensures possible { result.possible.items ≡ tabled (possibly (bank_alone (M.Module.meaning bank.now) (atoms_of bounds.now)) (pair_of bounds.now)) 0 (atoms_of bounds.now) }
 {
-    clear(sure_given);
-    clear(possible_given);
+    let unknown = list_unknown(bounds);
+    let mut sure = none(bounds.sure.len());
+    let mut possible = none(bounds.sure.len());
     for position in 0..bank.outputs() {
-        let atom = bank.atom(position) as usize;
-        if atom < sure_given.len() {
-            match find_standing(bank, position, sure, unknown) {
-                Standing::Sure => {
-                    sure_given[atom] = 1;
-                    possible_given[atom] = 1;
-                }
-                Standing::Open => possible_given[atom] = 1,
-                Standing::Never => {}
+        let atom = bank.atom(position);
+        match find_standing(bank, position, &bounds.sure, &unknown) {
+            Standing::Sure => {
+                put(&mut sure, atom);
+                put(&mut possible, atom);
             }
+            Standing::Open => put(&mut possible, atom),
+            Standing::Never => {}
         }
     }
+    Bounds { sure, possible }
 }
 
 fn find_standing<M: Module>(bank: &M, position: u16, sure: &[u8], unknown: &[u16]) -> Standing
@@ -98,26 +75,18 @@ fn find_standing<M: Module>(bank: &M, position: u16, sure: &[u8], unknown: &[u16
 fn is_settled<M: Module>(bank: &M, position: u16, unknown: &[u16]) -> bool
     ensures { result ≡ reads_none (M.Module.meaning bank.now) unknown.now position }
 {
-    for atom in unknown {
-        if bank.reads(position, *atom) {
-            return false;
-        }
-    }
-    true
+    unknown.iter().all(|atom| !bank.reads(position, *atom))
 }
 
-// Writes down the atoms that are possible and not sure, and says how many there are.
-fn list_unknown(sure: &[u8], possible: &[u8], unknown: &mut [u16]) -> usize
-    requires { (length possible.now ≡ length sure.now) × ((length sure.now ≤ 256) × (length sure.now ≤ length unknown.old)) }
-    ensures few { result ≤ length sure.now }
-    ensures atoms { take result unknown.new ≡ unknown_atoms (pair sure.now possible.now) (length sure.now) }
+// The atoms that are possible and not sure.
+fn list_unknown(bounds: &Bounds) -> ArrayVec<u16, 256>
+    ensures { result.items ≡ unknown_atoms (pair_of bounds.now) (atoms_of bounds.now) }
 {
-    let mut count = 0;
-    for atom in 0..sure.len() {
-        if possible[atom] == 1 && sure[atom] != 1 {
-            unknown[count] = atom as u16;
-            count += 1;
+    let mut unknown = ArrayVec::new();
+    for (atom, sure) in bounds.sure.iter().enumerate() {
+        if *sure != 1 && bounds.possible[atom] == 1 {
+            unknown.push(atom as u16);
         }
     }
-    count
+    unknown
 }

@@ -1,19 +1,25 @@
 // Marks: an atom whose byte is 1 is held present, one whose byte is 2 is held absent, and any other
 // byte says nothing of its atom.
-ghost use Rattle.std.specs.Prelude.{◌≡◌, not, ◌&&◌, ◌||◌, length};
+ghost use Rattle.std.specs.Prelude.{◌≡◌, ◌≤◌, not, ◌&&◌, ◌||◌, length};
 ghost use Rattle.semantics.specs.Sets.{has, tabled};
 ghost use Rattle.semantics.specs.Alternating.{marks_in, is_present, is_absent};
 
+use crate::pair::Bounds;
+use arrayvec::ArrayVec;
+
 // Begins with the atoms held present as sure and those not held absent as possible.
-pub(crate) fn widen(marks: &[u8], sure: &mut [u8], possible: &mut [u8])
-    requires { (length sure.old ≡ length marks.now) × (length possible.old ≡ length marks.now) }
-    ensures sure { sure.new ≡ tabled (λ a. is_present (marks_in marks.now a)) 0 (length marks.now) }
-    ensures possible { possible.new ≡ tabled (λ a. not (is_absent (marks_in marks.now a))) 0 (length marks.now) }
+pub(crate) fn widen(marks: &[u8]) -> Bounds
+    requires { length marks.now ≤ 256 }
+    ensures sure { result.sure.items ≡ tabled (λ a. is_present (marks_in marks.now a)) 0 (length marks.now) }
+    ensures possible { result.possible.items ≡ tabled (λ a. not (is_absent (marks_in marks.now a))) 0 (length marks.now) }
 {
-    for atom in 0..marks.len() {
-        sure[atom] = (marks[atom] == 1) as u8;
-        possible[atom] = (marks[atom] != 2) as u8;
+    let mut sure = ArrayVec::new();
+    let mut possible = ArrayVec::new();
+    for mark in marks {
+        sure.push((*mark == 1) as u8);
+        possible.push((*mark != 2) as u8);
     }
+    Bounds { sure, possible }
 }
 
 // Puts the atoms held present into a set.
@@ -21,8 +27,8 @@ pub(crate) fn hold(marks: &[u8], set: &mut [u8])
     requires { length set.old ≡ length marks.now }
     ensures { set.new ≡ tabled (λ a. has set.old a || is_present (marks_in marks.now a)) 0 (length marks.now) }
 {
-    for atom in 0..marks.len() {
-        set[atom] = ((set[atom] == 1) | (marks[atom] == 1)) as u8;
+    for (atom, mark) in marks.iter().enumerate() {
+        set[atom] = ((set[atom] == 1) | (*mark == 1)) as u8;
     }
 }
 
@@ -31,7 +37,7 @@ pub(crate) fn bar(marks: &[u8], set: &mut [u8])
     requires { length set.old ≡ length marks.now }
     ensures { set.new ≡ tabled (λ a. has set.old a && not (is_absent (marks_in marks.now a))) 0 (length marks.now) }
 {
-    for atom in 0..marks.len() {
-        set[atom] = ((set[atom] == 1) & (marks[atom] != 2)) as u8;
+    for (atom, mark) in marks.iter().enumerate() {
+        set[atom] = ((set[atom] == 1) & (*mark != 2)) as u8;
     }
 }

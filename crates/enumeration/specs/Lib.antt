@@ -1,4 +1,3 @@
 pub mod Marking
 pub mod Nodes
-pub mod Programs
 pub mod Visits

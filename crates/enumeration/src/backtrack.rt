@@ -16,10 +16,10 @@ pub fn step_back(choices: &mut Stack<Literal>) -> bool
     ensures back { back (newest_first choices.old) ≡ (if result then Some (newest_first choices.new) else None) }
 {
     while let Some(choice) = choices.pop() {
-        if let Side::Absent = choice.side {
+        if choice.side == Side::Absent {
             choices.push(Literal {
-                atom: choice.atom,
                 side: Side::Present,
+                ..choice
             });
             return true;
         }

@@ -8,61 +8,53 @@ ghost use Rattle.std.specs.Prelude.{◌≡◌, false, length, Some};
 ghost use Rattle.lines.specs.Stacks.{newest_first};
 ghost use Rattle.semantics.specs.Search.{back, Seeks};
 ghost use Rattle.derivation.specs.Rulesets.{atoms_in};
-ghost use Rattle.enumeration.specs.Programs.{program};
+ghost use Rattle.bounds.specs.Programs.{program_of};
 
 use crate::backtrack::step_back;
 use crate::decide::decide;
 use crate::visit::{Outcome, visit};
-use derivation::ruleset::Ruleset;
+use bounds::program::Program;
 use lines::stack::Stack;
 use modules::query::Module;
 use semantics::Literal;
 
 // The first plan at the node of the open choices or after it.
 pub fn plan_from<M: Module>(
-    rules: &Ruleset,
-    bank: &M,
+    program: &Program<M>,
     choices: &mut Stack<Literal>,
     plan: &mut [u8],
 ) -> bool
-    requires { (length plan.old ≡ atoms_in rules.now) × (length choices.old.entries.now ≡ atoms_in rules.now) }
+    requires plan { length plan.old ≡ atoms_in program.now.rules.now }
+    requires room { length choices.old.entries.now ≡ atoms_in program.now.rules.now }
     ensures lender { choices.new.entries.ghost_name ≡ choices.old.entries.ghost_name }
     ensures size { length choices.new.entries.now ≡ length choices.old.entries.now }
     ensures kept { result ≡ false → plan.new ≡ plan.old }
-    ensures seeks { Seeks (program (M.Module.meaning bank.now) rules.now) (Some (newest_first choices.old)) (newest_first choices.new) plan.new result }
+    ensures seeks { Seeks (program_of M.Module.meaning program.now) (Some (newest_first choices.old)) (newest_first choices.new) plan.new result }
 {
     loop {
-        match visit(rules, bank, choices, plan) {
-            Outcome::Passed => {
-                if !step_back(choices) {
-                    return false;
-                }
-            }
-            Outcome::Opens(atom) => {
-                if !decide(choices, atom) {
-                    return false;
-                }
-            }
+        let goes_on = match visit(program, choices, plan) {
             Outcome::Found => return true,
+            Outcome::Passed => step_back(choices),
+            Outcome::Opens(atom) => decide(choices, atom),
+        };
+        if !goes_on {
+            return false;
         }
     }
 }
 
 // The first plan after the node of the open choices.
 pub fn plan_after<M: Module>(
-    rules: &Ruleset,
-    bank: &M,
+    program: &Program<M>,
     choices: &mut Stack<Literal>,
     plan: &mut [u8],
 ) -> bool
-    requires { (length plan.old ≡ atoms_in rules.now) × (length choices.old.entries.now ≡ atoms_in rules.now) }
+    requires plan { length plan.old ≡ atoms_in program.now.rules.now }
+    requires room { length choices.old.entries.now ≡ atoms_in program.now.rules.now }
     ensures lender { choices.new.entries.ghost_name ≡ choices.old.entries.ghost_name }
     ensures size { length choices.new.entries.now ≡ length choices.old.entries.now }
     ensures kept { result ≡ false → plan.new ≡ plan.old }
-    ensures seeks { Seeks (program (M.Module.meaning bank.now) rules.now) (back (newest_first choices.old)) (newest_first choices.new) plan.new result }
+    ensures seeks { Seeks (program_of M.Module.meaning program.now) (back (newest_first choices.old)) (newest_first choices.new) plan.new result }
 {
-    if !step_back(choices) {
-        return false;
-    }
-    plan_from(rules, bank, choices, plan)
+    step_back(choices) && plan_from(program, choices, plan)
 }

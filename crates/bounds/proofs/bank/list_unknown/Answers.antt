@@ -1,30 +1,46 @@
-use Rattle.std.proofs.Common.{not, get_or, arith}
-use Rattle.std.proofs.lemmas.List.{take_more_set}
+use Rattle.std.proofs.Common.{◌≡◌, true, false, ◌≤◌, not, length, get_or, sym, ap, ◌∙◌, arith}
 use Rattle.std.proofs.lemmas.Bool.{eq-eqb, ne_eqb, or_left, or_right, or_from, not_from_true, not_from_false}
 use Rattle.semantics.specs.Sets.{has}
-use Rattle.bounds.specs.Rounds.{pair}
-use Rattle.bounds.proofs.Knowing.{unknown_less, unknown_more}
+use Rattle.bounds.specs.Pairs.{pair_of}
+use Rattle.bounds.specs.Unknown.{unknown_atoms}
+use Rattle.bounds.proofs.Knowing.{unknown_less, unknown_more, unknown_few}
 use Rattle.bounds.proofs.bank.list_unknown.Goals as goal
-use Rattle.bounds.proofs.bank.list_unknown.Goals.{then-possible-atom-eq1+then-sure-atom-ne1, else-possible-atom-eq1, else-possible-atom-eq1-via-then-possible-atom-eq1+else-sure-atom-ne1, else-possible-atom-eq1-via-else-possible-atom-eq1}
+use Rattle.bounds.proofs.bank.list_unknown.Goals.{then-sure-ne1+then-deref-atom-eq1, else-sure-ne1, else-sure-ne1-via-then-sure-ne1+else-deref-atom-eq1, else-sure-ne1-via-else-sure-ne1}
+
+pub push-requires : goal.push-requires
+push-requires c =
+    let few : length c.loop-atom.unknown.items ≤ c.loop-atom.atom = omega (arith, ap length c.loop-atom.invariant, unknown_few (pair_of c.args.bounds.now) c.loop-atom.atom) in
+    (omega arith, omega (arith, c.deref-sure-items.ensures.1))
 
 pub loop-atom-preserved : goal.loop-atom-preserved
 loop-atom-preserved c =
-    let s = c.args.sure.now in
-    let u = c.args.possible.now in
-    let q = pair s u in
+    let b = c.args.bounds.now in
+    let s = b.sure.items in
+    let u = b.possible.items in
+    let q = pair_of b in
     let i = c.loop-atom.atom in
-    let inv = c.loop-atom.invariant.1 in
-    elim c.if-possible-atom-eq1.branch [
-      | then-possible-atom-eq1+then-sure-atom-ne1 w ↦
-          let e = unknown_more q i (or_from (has s i) (not (has u i)) (ne_eqb (get_or s i 0) 1 w.if-sure-atom-ne1.true) (not_from_true (has u i) (eq-eqb (get_or u i 0) 1 w.if-possible-atom-eq1.true))) in
-          let t = take_more_set c.loop-atom.unknown c.loop-atom.count i (omega arith) in
-          (omega (arith, w.count-is), cc)
-      | else-possible-atom-eq1 w ↦ elim w.else-possible-atom-eq1.branch [
-        | else-possible-atom-eq1-via-then-possible-atom-eq1+else-sure-atom-ne1 v ↦
-            let e = unknown_less q i (or_left (has s i) (not (has u i)) (eq-eqb (get_or s i 0) 1 v.if-sure-atom-ne1.false)) in
-            (omega (arith, w.count-is), cc)
-        | else-possible-atom-eq1-via-else-possible-atom-eq1 v ↦
-            let e = unknown_less q i (or_right (has s i) (not (has u i)) (not_from_false (has u i) (ne_eqb (get_or u i 0) 1 v.if-possible-atom-eq1.false))) in
-            (omega (arith, w.count-is), cc)
+    let inv = c.loop-atom.invariant in
+    let read = c.deref-sure-items in
+    let sure-is : has read.result.now i ≡ has s i = ap (λ xs. has xs i) read.ensures.0 in
+    elim c.if-sure-ne1.branch [
+      | then-sure-ne1+then-deref-atom-eq1 w ↦
+          let unsure : has s i ≡ false = sym sure-is ∙ ne_eqb (get_or read.result.now i 0) 1 w.if-sure-ne1.true in
+          let possible : has u i ≡ true = sym (ap (λ xs. has xs i) w.deref.ensures.0) ∙ eq-eqb (get_or w.deref.result.now i 0) 1 w.if-deref-atom-eq1.true in
+          let e = unknown_more q i (or_from (has s i) (not (has u i)) unsure (not_from_true (has u i) possible)) in
+          cc
+      | else-sure-ne1 w ↦ elim w.else-sure-ne1.branch [
+        | else-sure-ne1-via-then-sure-ne1+else-deref-atom-eq1 v ↦
+            let impossible : has u i ≡ false = sym (ap (λ xs. has xs i) v.deref.ensures.0) ∙ ne_eqb (get_or v.deref.result.now i 0) 1 v.if-deref-atom-eq1.false in
+            let e = unknown_less q i (or_right (has s i) (not (has u i)) (not_from_false (has u i) impossible)) in
+            cc
+        | else-sure-ne1-via-else-sure-ne1 v ↦
+            let sure : has s i ≡ true = sym sure-is ∙ eq-eqb (get_or read.result.now i 0) 1 v.if-sure-ne1.false in
+            let e = unknown_less q i (or_left (has s i) (not (has u i)) sure) in
+            cc
       ]
     ]
+
+pub returns : goal.returns
+returns c =
+    let all : c.loop-atom.atom ≡ length c.args.bounds.now.sure.items = omega (arith, ap length c.deref-sure-items.ensures.0) in
+    c.loop-atom.invariant ∙ ap (unknown_atoms (pair_of c.args.bounds.now)) all

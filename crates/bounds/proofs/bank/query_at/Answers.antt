@@ -1,21 +1,17 @@
 use Rattle.std.proofs.Common.{◌≡◌, ℕ, Bool, length, sym, ap, ◌∙◌, arith}
-use Rattle.std.proofs.lemmas.List.{set_past}
 use Rattle.bounds.proofs.Outputs.{found, found_passed, found_failed}
 use Rattle.bounds.proofs.bank.query_at.Goals as goal
-use Rattle.bounds.proofs.bank.query_at.Goals.{then-given+then-atom-outputs, then-given+else-atom-outputs, else-given}
+use Rattle.bounds.proofs.bank.query_at.Goals.{then-given, else-given}
 
 pub loop-position-preserved : goal.loop-position-preserved
 loop-position-preserved g c =
     let m = g.M.Module.meaning c.args.bank.now in
     let passes : ℕ → Bool = λ p. m.given p c.args.set.now in
-    let n = length c.clear.new.set in
+    let n = length c.args.set.now in
     let k = c.loop-position.position in
     let inv = c.loop-position.invariant in
     elim c.if-given.branch [
-      | then-given+then-atom-outputs w ↦ let e = found_passed m passes n k (sym w.if-given.ensures) in cc
-      | then-given+else-atom-outputs w ↦
-          let e = found_passed m passes n k (sym w.if-given.ensures) in
-          let s = set_past c.loop-position.outputs w.atom-atom.result 1 w.if-atom-outputs.false in cc
+      | then-given w ↦ let e = found_passed m passes n k (sym w.if-given.ensures) in cc
       | else-given w ↦ let e = found_failed m passes n k (sym w.if-given.ensures) in cc
     ]
 
@@ -24,5 +20,4 @@ returns g c =
     let m = g.M.Module.meaning c.args.bank.now in
     let passes : ℕ → Bool = λ p. m.given p c.args.set.now in
     let all : c.loop-position.position ≡ m.outputs = omega arith in
-    let size : length c.clear.new.set ≡ length c.args.outputs.now = omega arith in
-    c.loop-position.invariant ∙ ap (found m passes (length c.clear.new.set)) all ∙ ap (λ n. found m passes n m.outputs) size
+    c.loop-position.invariant ∙ ap (found m passes (length c.args.set.now)) all

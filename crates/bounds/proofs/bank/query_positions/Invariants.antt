@@ -1,9 +1,0 @@
-use Rattle.std.proofs.Common.{◌≡◌, not, ◌&&◌, ◌||◌, length}
-use Rattle.bounds.specs.Unknown.{reads_none}
-use Rattle.bounds.proofs.Outputs.{found}
-use Rattle.bounds.proofs.bank.query_positions.Given as goal
-
-abbrev pub invariant-loop-position : goal.invariant-loop-position
-invariant-loop-position g l =
-    (l.sure_given ≡ found (g.M.Module.meaning l.bank) (λ k. reads_none (g.M.Module.meaning l.bank) l.unknown k && (g.M.Module.meaning l.bank).given k l.sure) (length l.initial.sure_given) l.position) ×
-    (l.possible_given ≡ found (g.M.Module.meaning l.bank) (λ k. not (reads_none (g.M.Module.meaning l.bank) l.unknown k) || (g.M.Module.meaning l.bank).given k l.sure) (length l.initial.sure_given) l.position)
