@@ -1,2 +1,1 @@
 pub mod Lowest
-pub mod Literals

@@ -16,7 +16,7 @@ pub fn check_levels<M: Module>(bank: &M, levels: &[u8]) -> Result<(), Fault>
     ensures checked { Checked (lay_fault (M.Module.meaning bank.now) levels.now) result }
     ensures few { is_ok result ≡ true → length levels.now ≤ 256 }
 {
-    if levels.len() == 0 || levels.len() > ATOMS {
+    if levels.is_empty() || levels.len() > ATOMS {
         return Err(Fault::LevelCount);
     }
     if let Some(atom) = high_level(levels) {
@@ -35,12 +35,7 @@ pub fn check_levels<M: Module>(bank: &M, levels: &[u8]) -> Result<(), Fault>
 pub(crate) fn level_of(levels: &[u8], atom: u16) -> u8
     ensures { result ≡ level levels.now atom }
 {
-    let place = atom as usize;
-    if place < levels.len() {
-        levels[place]
-    } else {
-        0
-    }
+    levels.get(atom as usize).copied().unwrap_or(0)
 }
 
 // The lowest atom whose level is above 15.
@@ -48,25 +43,17 @@ fn high_level(levels: &[u8]) -> Option<u16>
     requires { length levels.now ≤ 256 }
     ensures { result ≡ lowest (λ a. nat_lt 15 (level levels.now a)) (length levels.now) }
 {
-    for atom in 0..levels.len() {
-        if levels[atom] > 15 {
-            return Some(atom as u16);
-        }
-    }
-    None
+    levels
+        .iter()
+        .position(|level| *level > 15)
+        .map(|atom| atom as u16)
 }
 
 // The lowest position whose atom is none of the sheet's.
 fn stray_output<M: Module>(bank: &M, atoms: usize) -> Option<u16>
     ensures { result ≡ lowest (λ k. not (nat_lt ((M.Module.meaning bank.now).atom k) atoms)) (M.Module.meaning bank.now).outputs }
 {
-    let outputs = bank.outputs();
-    for position in 0..outputs {
-        if bank.atom(position) as usize >= atoms {
-            return Some(position);
-        }
-    }
-    None
+    (0..bank.outputs()).find(|position| bank.atom(*position) as usize >= atoms)
 }
 
 // The lowest position that reads an atom of the sheet whose level is not below that of its output.
@@ -74,13 +61,7 @@ fn high_reader<M: Module>(bank: &M, levels: &[u8]) -> Option<u16>
     requires { length levels.now ≤ 256 }
     ensures { result ≡ lowest (reads_too_high levels.now (M.Module.meaning bank.now)) (M.Module.meaning bank.now).outputs }
 {
-    let outputs = bank.outputs();
-    for position in 0..outputs {
-        if is_high_reader(bank, levels, position) {
-            return Some(position);
-        }
-    }
-    None
+    (0..bank.outputs()).find(|position| is_high_reader(bank, levels, *position))
 }
 
 // Whether a position reads such an atom.
@@ -89,10 +70,5 @@ fn is_high_reader<M: Module>(bank: &M, levels: &[u8], position: u16) -> bool
     ensures { result ≡ reads_too_high levels.now (M.Module.meaning bank.now) position }
 {
     let own = level_of(levels, bank.atom(position));
-    for atom in 0..levels.len() {
-        if bank.reads(position, atom as u16) && levels[atom] >= own {
-            return true;
-        }
-    }
-    false
+    (0..levels.len()).any(|atom| bank.reads(position, atom as u16) && levels[atom] >= own)
 }

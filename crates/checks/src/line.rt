@@ -22,7 +22,7 @@ pub fn check_line(levels: &[u8], count: usize, head: Head, body: &[Literal]) -> 
     ensures few { is_ok result ≡ true → count < 512 }
     ensures made { IfOk result (λ l. rule_of l ≡ line head body.now) }
 {
-    if levels.len() == 0 {
+    if levels.is_empty() {
         return Err(Fault::NeverLaid);
     }
     if count >= LINES {
@@ -43,8 +43,8 @@ fn check_body(levels: &[u8], head: Head, body: &[Literal]) -> Result<(), Fault>
     requires { length body.now ≤ 8 }
     ensures { Checked (literal_fault levels.now head 0 body.now) result }
 {
-    for place in 0..body.len() {
-        check_literal(levels, head, body[place], place as u16)?;
+    for (place, literal) in body.iter().enumerate() {
+        check_literal(levels, head, *literal, place as u16)?;
     }
     Ok(())
 }

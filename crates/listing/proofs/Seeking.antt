@@ -1,9 +1,7 @@
 -- Where the search goes on.
-use Rattle.std.proofs.Common.{◌≡◌, ℕ, Bool, true, false, List, [], ◌∷◌, Some, sym, refl, ap, ◌∙◌, subst, append-nil}
+use Rattle.std.proofs.Common.{◌≡◌, ℕ, true, false, List, [], ◌∷◌, Some, sym, refl, ap, ◌∙◌, append-nil}
 use Rattle.semantics.specs.declared.Literal.{Literal}
-use Rattle.semantics.specs.Rules.{Rule}
-use Rattle.semantics.specs.Banks.{Meaning}
-use Rattle.semantics.specs.Plans.{Program, plans, over}
+use Rattle.semantics.specs.Plans.{Program, plans}
 use Rattle.semantics.specs.Search.{under, LeadsTo}
 use Rattle.semantics.specs.Sheets.{Listing, Fresh, Running, Ended, Full, is_full}
 use Rattle.listing.specs.Seeking.{GoesOn}
@@ -22,10 +20,3 @@ not_full p cs cs' set Fresh k = refl
 not_full p cs cs' set Running k = refl
 not_full p cs cs' set Ended k = refl
 not_full p cs cs' set Full k = k.0
-
--- the search goes on alike over as many atoms and the same choices
-pub goes_on_alike : (l : Listing) (bank : Meaning) (rules : List Rule) (set : List ℕ) (found : Bool) {n n' : ℕ} {cs cs' ds ds' : List Literal} → n ≡ n' → cs ≡ cs' → ds ≡ ds' →
-    GoesOn l (over bank n rules) cs ds set found → GoesOn l (over bank n' rules) cs' ds' set found
-goes_on_alike l bank rules set found {n} {n'} {cs} {cs'} {ds} {ds'} e f g h =
-    subst (λ n. GoesOn l (over bank n rules) cs' ds' set found) e
-    (subst (λ cs. GoesOn l (over bank n rules) cs ds' set found) f (subst (λ ds. GoesOn l (over bank n rules) cs ds set found) g h))

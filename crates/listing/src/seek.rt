@@ -1,61 +1,68 @@
 // Looking for the next plan, where the state of the listing says.
 //
-// The caller keeps the open choices of the last plan in a slice with room for one of each atom,
-// and lends it as a stack.
-ghost use Rattle.std.specs.Prelude.{◌≡◌, ◌≤◌, false, length};
+// The search works on a stack over the room of the choices, and how many are open when it has found
+// a plan is kept for the next time.
+ghost use Rattle.std.specs.Prelude.{◌≡◌, ◌≤◌, false, length, is_some, unwrap_or, IfSome, None, vec_len};
 ghost use Rattle.semantics.specs.Plans.{over};
-ghost use Rattle.derivation.specs.Rulesets.{rules_in, atoms_in};
+ghost use Rattle.derivation.specs.Rulesets.{atoms_in, rules_in};
+ghost use Rattle.bounds.specs.Programs.{program_of};
 ghost use Rattle.listing.specs.States.{listing_of};
-ghost use Rattle.listing.specs.Seeking.{newest_of, GoesOn};
+ghost use Rattle.listing.specs.Seeking.{newest_of, opened, GoesOn};
 
+use crate::choices::Choices;
 use crate::state::Listing;
+use bounds::program::Program;
 use derivation::ruleset::Ruleset;
 use enumeration::enumerate::{plan_after, plan_from};
 use lines::stack::Stack;
 use modules::query::Module;
 use semantics::Literal;
 
-// What looking comes to: whether there is a plan, and how many choices are open after it.
-#[derive(Clone, Copy)]
-pub struct Sought {
-    pub found: bool,
-    pub depth: usize,
-}
-
-// Looks for the next plan where the listing stands. The open choices are the first `depth`.
+// Looks for the next plan where the listing stands, and leaves its choices open. Whether there is one.
 pub fn seek<M: Module>(
     listing: Listing,
     rules: &Ruleset,
     bank: &M,
-    choices: &mut [Literal],
+    choices: &mut Choices,
+    plan: &mut [u8],
+) -> bool
+    requires plan_size { length plan.old ≡ atoms_in rules.now }
+    requires room { vec_len choices.old.room ≡ atoms_in rules.now }
+    ensures room { vec_len choices.new.room ≡ vec_len choices.old.room }
+    ensures kept { result ≡ false → plan.new ≡ plan.old }
+    ensures goes_on { GoesOn (listing_of listing) (over (M.Module.meaning bank.now) (atoms_in rules.now) (rules_in rules.now)) (opened choices.old) (opened choices.new) plan.new result }
+{
+    let program = Program { rules, bank };
+    let room = choices.room.as_mut_slice();
+    let open = open_at_next(listing, &program, room, choices.depth, plan);
+    choices.depth = open.unwrap_or(choices.depth);
+    open.is_some()
+}
+
+// How many choices are open at the next plan, if there is one.
+fn open_at_next<M: Module>(
+    listing: Listing,
+    program: &Program<M>,
+    room: &mut [Literal],
     depth: usize,
     plan: &mut [u8],
-) -> Sought
-    requires { (length plan.old ≡ atoms_in rules.now) × ((length choices.old ≡ atoms_in rules.now) × (depth ≤ length choices.old)) }
-    ensures within { result.depth ≤ length choices.new }
-    ensures kept { result.found ≡ false → plan.new ≡ plan.old }
-    ensures goes_on { GoesOn (listing_of listing) (over (M.Module.meaning bank.now) (atoms_in rules.now) (rules_in rules.now)) (newest_of depth choices.old) (newest_of result.depth choices.new) plan.new result.found }
+) -> Option<usize>
+    requires plan_size { length plan.old ≡ atoms_in program.now.rules.now }
+    requires room_size { length room.old ≡ atoms_in program.now.rules.now }
+    requires within { depth ≤ length room.old }
+    ensures within { IfSome result (λ left. left ≤ length room.new) }
+    ensures kept { is_some result ≡ false → plan.new ≡ plan.old }
+    ensures goes_on { GoesOn (listing_of listing) (program_of M.Module.meaning program.now) (newest_of depth room.old) (newest_of (unwrap_or result depth) room.new) plan.new (is_some result) }
 {
     match listing {
         Listing::Fresh => {
-            let mut open = Stack::new(choices);
-            let found = plan_from(rules, bank, &mut open, plan);
-            Sought {
-                found,
-                depth: open.len(),
-            }
+            let mut open = Stack::new(room);
+            plan_from(program, &mut open, plan).then_some(open.len())
         }
         Listing::Running => {
-            let mut open = Stack::resume(choices, depth);
-            let found = plan_after(rules, bank, &mut open, plan);
-            Sought {
-                found,
-                depth: open.len(),
-            }
+            let mut open = Stack::resume(room, depth);
+            plan_after(program, &mut open, plan).then_some(open.len())
         }
-        Listing::Ended | Listing::Full => Sought {
-            found: false,
-            depth,
-        },
+        Listing::Ended | Listing::Full => None,
     }
 }

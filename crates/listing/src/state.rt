@@ -10,7 +10,7 @@ ghost use Rattle.listing.specs.States.{listing_of, after_plan};
 // The most plans that a listing hands out.
 pub const MOST: u32 = 1_000_000;
 
-#[derive(Clone, Copy)]
+#[derive(Clone, Copy, PartialEq, Eq, Debug)]
 pub enum Listing {
     Fresh,
     Running,
@@ -33,9 +33,6 @@ impl Listing {
     pub fn is_ended(self) -> bool
         ensures { result ≡ is_ended (listing_of self) }
     {
-        match self {
-            Listing::Ended => true,
-            _ => false,
-        }
+        self == Listing::Ended
     }
 }

@@ -14,9 +14,9 @@ pub fn count(tallies: &mut [u32], plan: &[u8])
     requires { length plan.now ≡ length tallies.old }
     ensures { Counted plan.now tallies.old tallies.new }
 {
-    for atom in 0..plan.len() {
+    for (atom, tally) in tallies.iter_mut().enumerate() {
         if plan[atom] == 1 {
-            tallies[atom] = tallies[atom].saturating_add(1);
+            *tally = tally.saturating_add(1);
         }
     }
 }

@@ -19,9 +19,6 @@ use Rattle.sheet.proofs.Calls.{accept}
 
 -- a buffer that fits is looked for
 module _ (l : Listing) (p : Program) (cs cs' : List Literal) (set : List ℕ) (found : Bool) (size n : ℕ) (fits : size ≡ n) where
-  pub looked_if : GoesOn l p cs cs' set found → Looked (eqb size n) l p cs cs' set found
-  looked_if k = subst (λ b. Looked b l p cs cs' set found) (sym (eq-eqb size n fits)) k
-
   pub if_looked : Looked (eqb size n) l p cs cs' set found → GoesOn l p cs cs' set found
   if_looked k = subst (λ b. Looked b l p cs cs' set found) (eq-eqb size n fits) k
 

@@ -8,7 +8,7 @@ use Rattle.semantics.specs.Search.{back, LeadsTo}
 use Rattle.semantics.specs.Sheets.{State, program, Listing as Progress, Fresh as fresh, Running as running, Ended as ended, Full as full}
 use Rattle.derivation.specs.Rulesets.{rules_in}
 use Rattle.listing.specs.States.{listing_of}
-use Rattle.listing.specs.Seeking.{newest_of}
+use Rattle.listing.specs.Seeking.{opened}
 use Rattle.sheet.specs.declared.paper.Sheet.{Sheet}
 
 -- all that a call can learn of a sheet, but for its bank; the open choices have the newest first
@@ -23,12 +23,12 @@ pub record Contents : Type 0 where
 -- what a sheet holds
 abbrev pub contents : {M : Type 0} → Sheet M → Contents
 contents s = record {
-  levels = vec_items s.levels;
-  rules = rules_in s.rules;
+  levels = vec_items s.parts.levels;
+  rules = rules_in s.parts.rules;
   listing = listing_of s.listing;
   handed = s.handed;
-  tallies = vec_items s.tallies;
-  opened = newest_of s.depth (vec_items s.choices);
+  tallies = vec_items s.parts.tallies;
+  opened = opened s.parts.choices;
 }
 
 -- with a fresh listing

@@ -2,7 +2,7 @@
 //
 // `lay` and `enter` check first, then make all that they need, and change the sheet last: a
 // refusal, also for want of memory, leaves it as it was. Both begin a fresh listing.
-ghost use Rattle.std.specs.Prelude.{◌≡◌, ◌<◌, true, length, is_ok, IfOk};
+ghost use Rattle.std.specs.Prelude.{◌≡◌, ◌<◌, true, length, is_ok, IfOk, nat_lt};
 ghost use Rattle.semantics.specs.Sheets.{fault, enter, line};
 ghost use Rattle.lines.specs.Lines.{rule_of};
 ghost use Rattle.derivation.specs.Rulesets.{rules_in};
@@ -14,7 +14,6 @@ use crate::paper::Sheet;
 use crate::parts::Parts;
 use checks::levels::check_levels;
 use checks::line::check_line;
-use derivation::ruleset::Ruleset;
 use faults::Fault;
 use lines::line::Line;
 use listing::state::Listing;
@@ -32,13 +31,9 @@ impl<M: Module> Sheet<M> {
         Sheet {
             bank,
             heap,
-            levels: Vec::new(heap),
-            rules: Ruleset::empty(heap),
+            parts: Parts::blank(heap),
             listing: Listing::Fresh,
             handed: 0,
-            tallies: Vec::new(heap),
-            choices: Vec::new(heap),
-            depth: 0,
         }
     }
 
@@ -46,7 +41,14 @@ impl<M: Module> Sheet<M> {
     pub fn atoms(&self) -> usize
         ensures { result ≡ length (contents self.now).levels }
     {
-        self.levels.len()
+        self.parts.levels.len()
+    }
+
+    // Whether it was ever laid.
+    pub(crate) fn is_laid(&self) -> bool
+        ensures { result ≡ nat_lt 0 (length (contents self.now).levels) }
+    {
+        !self.parts.levels.is_empty()
     }
 
     // Gives the sheet an atom for each level, and takes every line off.
@@ -55,12 +57,7 @@ impl<M: Module> Sheet<M> {
         ensures laid { Laid (M.Module.meaning self.old.bank) (contents self.old) (contents self.new) levels.now result }
     {
         check_levels(&self.bank, levels)?;
-        let parts = Parts::new(self.heap, levels)?;
-        self.levels = parts.levels;
-        self.rules = parts.rules;
-        self.tallies = parts.tallies;
-        self.choices = parts.choices;
-        self.depth = 0;
+        self.parts = Parts::new(self.heap, levels)?;
         self.listing = Listing::Fresh;
         self.handed = 0;
         Ok(())
@@ -72,7 +69,7 @@ impl<M: Module> Sheet<M> {
         ensures entered { Entered (M.Module.meaning self.old.bank) (contents self.old) (contents self.new) head body.now result }
     {
         let line = self.check_enter(head, body)?;
-        self.rules.enter(line)?;
+        self.parts.rules.enter(line)?;
         self.restart();
         Ok(())
     }
@@ -80,12 +77,12 @@ impl<M: Module> Sheet<M> {
     // A fresh listing of the lines in force.
     fn restart(&mut self)
         ensures same { self.new.bank ≡ self.old.bank }
-        ensures fresh { contents self.new ≡ anew self.old.levels.items (rules_in self.old.rules) }
+        ensures fresh { contents self.new ≡ anew self.old.parts.levels.items (rules_in self.old.parts.rules) }
     {
         self.listing = Listing::Fresh;
         self.handed = 0;
-        self.depth = 0;
-        tallies::clear(self.tallies.as_mut_slice());
+        self.parts.choices.close();
+        tallies::clear(self.parts.tallies.as_mut_slice());
     }
 
     // The line to enter, if nothing is wrong with it.
@@ -94,6 +91,11 @@ impl<M: Module> Sheet<M> {
         ensures few { is_ok result ≡ true → length (contents self.now).rules < 512 }
         ensures made { IfOk result (λ l. rule_of l ≡ line head body.now) }
     {
-        check_line(self.levels.as_slice(), self.rules.lines().len(), head, body)
+        check_line(
+            self.parts.levels.as_slice(),
+            self.parts.rules.lines().len(),
+            head,
+            body,
+        )
     }
 }

@@ -19,15 +19,19 @@ impl<M: Module> Sheet<M> {
         ensures kept { is_plan_step result ≡ false → buffer.new ≡ buffer.old }
         ensures stepped { Stepped (M.Module.meaning self.old.bank) (contents self.old) (contents self.new) buffer.old buffer.new result }
     {
-        if self.levels.len() == 0 {
+        if !self.is_laid() {
             return Err(Fault::NeverLaid);
         }
         let found = self.look(buffer);
-        match (&mut self.listing, buffer.len() == self.levels.len(), found) {
+        match (
+            &mut self.listing,
+            buffer.len() == self.parts.levels.len(),
+            found,
+        ) {
             (_, false, _) => Err(Fault::WrongBuffer),
             (Listing::Full, true, _) => Err(Fault::ListingFull),
             (state, true, true) => {
-                tallies::count(self.tallies.as_mut_slice(), buffer);
+                tallies::count(self.parts.tallies.as_mut_slice(), buffer);
                 self.handed = self.handed.saturating_add(1);
                 *state = Listing::after_plan(self.handed);
                 Ok(Step::Plan)
@@ -46,18 +50,16 @@ impl<M: Module> Sheet<M> {
         ensures kept { result ≡ false → plan.new ≡ plan.old }
         ensures looked { Looked (length plan.old == length (contents self.old).levels) (contents self.old).listing (in_force (M.Module.meaning self.old.bank) (contents self.old)) (contents self.old).opened (contents self.new).opened plan.new result }
     {
-        if plan.len() != self.levels.len() {
+        if plan.len() != self.atoms() {
             return false;
         }
-        let sought = seek::seek(
+        let parts = &mut self.parts;
+        seek::seek(
             self.listing,
-            &self.rules,
+            &parts.rules,
             &self.bank,
-            self.choices.as_mut_slice(),
-            self.depth,
+            &mut parts.choices,
             plan,
-        );
-        self.depth = sought.depth;
-        sought.found
+        )
     }
 }

@@ -28,16 +28,17 @@ impl<M: Module> Sheet<M> {
     pub fn tell(&self, atom: u16) -> Result<Told, Fault>
         ensures { Tells (M.Module.meaning self.now.bank) (contents self.now) atom result }
     {
-        if self.levels.len() == 0 {
+        if !self.is_laid() {
             return Err(Fault::NeverLaid);
         }
-        let place = atom as usize;
-        if place >= self.levels.len() {
-            return Err(Fault::NoSuchAtom);
-        }
+        let tally = self
+            .parts
+            .tallies
+            .get(atom as usize)
+            .ok_or(Fault::NoSuchAtom)?;
         if !self.listing.is_ended() {
             return Err(Fault::NotEnded);
         }
-        Ok(Told::of(self.tallies[place], self.handed))
+        Ok(Told::of(*tally, self.handed))
     }
 }

@@ -1,13 +1,10 @@
-use Rattle.std.proofs.Common.{ltb, length, get_or, arith}
-use Rattle.std.proofs.lemmas.Bool.{lt-ltb, le-ltb}
-use Rattle.semantics.specs.Sheets.{level}
-use Rattle.checks.proofs.Lowest.{lowest_passed, lowest_here}
+use Rattle.std.proofs.Common.{◌≡◌, true, false, ltb, rules, ◌∙◌}
+use Rattle.std.proofs.lemmas.Iterator.{YieldsList-from_slice, IsFirst-from_position}
+use Rattle.checks.proofs.Lowest.{is_lowest_place}
 use Rattle.checks.proofs.levels.high_level.Goals as goal
 
-pub returns-then-levels-atom-gt15 : goal.returns-then-levels-atom-gt15
-returns-then-levels-atom-gt15 c =
-    lowest_here (λ a. ltb 15 (level c.args.levels.now a)) c.loop-atom.atom (length c.args.levels.now) c.loop-atom.invariant (lt-ltb 15 (get_or c.args.levels.now c.loop-atom.atom 0) (omega arith)) (omega arith)
-
-pub loop-atom-preserved : goal.loop-atom-preserved
-loop-atom-preserved c =
-    lowest_passed (λ a. ltb 15 (level c.args.levels.now a)) c.loop-atom.atom c.loop-atom.invariant (le-ltb 15 (get_or c.args.levels.now c.loop-atom.atom 0) (omega arith))
+pub returns : goal.returns
+returns c =
+    let same : c.map.result ≡ c.position.result = search rules in
+    same ∙ is_lowest_place (λ x. ltb 15 x) c.args.levels.now c.position.result
+    (IsFirst-from_position _ _ c.position.result (λ x. ltb 15 x ≡ true) (λ x. ltb 15 x ≡ false) c.position.ensures.ran (YieldsList-from_slice c.args.levels.now c.iter.ensures.rest) (λ x q k. search rules) (λ x q k. search rules))

@@ -1,16 +1,11 @@
-use Rattle.std.proofs.Common.{not, ltb, ap, arith}
-use Rattle.std.proofs.lemmas.Bool.{lt-ltb, le-ltb}
-use Rattle.checks.proofs.Lowest.{lowest_passed, lowest_here}
+use Rattle.std.proofs.Common.{◌≡◌, ℕ, Bool, not, ltb, rules, true, false, ap, ◌∙◌}
+use Rattle.std.proofs.lemmas.Iterator.{first_from_Range}
+use Rattle.semantics.specs.Sheets.{lowest}
+use Rattle.checks.proofs.Lowest.{is_lowest}
 use Rattle.checks.proofs.levels.stray_output.Goals as goal
 
-pub returns-then-atom-atoms : goal.returns-then-atom-atoms
-returns-then-atom-atoms g c =
-    let bank = g.M.Module.meaning c.args.bank.now in
-    let k = c.loop-position.position in
-    lowest_here (λ k. not (ltb (bank.atom k) c.args.atoms)) k bank.outputs c.loop-position.invariant (ap not (le-ltb (bank.atom k) c.args.atoms (omega arith))) (omega arith)
-
-pub loop-position-preserved : goal.loop-position-preserved
-loop-position-preserved g c =
-    let bank = g.M.Module.meaning c.args.bank.now in
-    let k = c.loop-position.position in
-    lowest_passed (λ k. not (ltb (bank.atom k) c.args.atoms)) k c.loop-position.invariant (ap not (lt-ltb (bank.atom k) c.args.atoms (omega arith)))
+pub returns : goal.returns
+returns g c =
+    let test : ℕ → Bool = λ k. not (ltb ((g.M.Module.meaning c.args.bank.now).atom k) c.args.atoms) in
+    is_lowest test c.outputs.result c.find.result (first_from_Range _ _ _ c.find.result (λ k. test k ≡ true) (λ k. test k ≡ false) c.find.ensures.ran (λ x q k. search rules) (λ x q k. search rules))
+    ∙ ap (lowest test) c.outputs.ensures

@@ -1,22 +1,15 @@
-use Rattle.std.proofs.Common.{◌≡◌, [], None, vec_items, sym, refl, rules}
+use Rattle.std.proofs.Common.{◌≡◌, [], None, sym, refl, rules}
 use Rattle.semantics.specs.Sheets.{lay, fault}
 use Rattle.semantics.proofs.Sheets.{lay_forms}
-use Rattle.derivation.specs.Rulesets.{rules_in}
 use Rattle.sheet.specs.Contents.{contents, state_of}
-use Rattle.sheet.proofs.Calls.{restarts, anew_is}
+use Rattle.sheet.proofs.Calls.{restarts}
 use Rattle.sheet.proofs.paper.Sheet.lay.Goals as goal
 
-pub returns : goal.returns
-returns g c =
+pub returns-clause-laid : goal.returns-clause-laid
+returns-clause-laid g c =
     let self = c.args.self.now in
     let bank = g.M.Module.meaning self.bank in
     let s = contents self in
     let levels = c.args.levels.now in
     let passes : fault (state_of bank s) (lay levels) ≡ None = sym c.in_ok-check_levels.ensures.checked.finds in
-    let parts = c.in_ok-parts.parts in
-    let parted = c.in_ok-parts.ensures in
-    let fresh = anew_is levels (vec_items parts.levels) [] (rules_in parts.rules) (vec_items parts.tallies) parted.levels_are parted.no_rules parted.tallies_are in
-    record {
-      same = search rules;
-      laid = restarts bank s (lay levels) levels [] _ passes refl fresh refl (λ k l. lay_forms (state_of bank s) levels (g.met.M.Module.lawful self.bank) passes);
-    }
+    restarts bank s (lay levels) levels [] _ passes refl (search rules) refl (λ k l. lay_forms (state_of bank s) levels (g.met.M.Module.lawful self.bank) passes)

@@ -1,56 +1,43 @@
-use Rattle.std.proofs.Common.{◌≡◌, true, false, length, vec_items, vec_len, sym, refl, ap, ◌∙◌, subst, arith, rules}
+use Rattle.std.proofs.Common.{◌≡◌, ◌<◌, true, false, length, sym, ap, ◌∙◌, rules}
 use Rattle.std.specs.Vec.{with_items}
+use Rattle.std.proofs.lemmas.Bool.{ltb-true}
 use Rattle.std.proofs.lemmas.List.{with_items_is}
 use Rattle.semantics.specs.Sheets.{is_full}
+use Rattle.listing.specs.Tallies.{Counted}
 use Rattle.sheet.specs.Contents.{contents, in_force}
-use Rattle.listing.specs.States.{listing_of}
-use Rattle.listing.specs.Seeking.{GoesOn}
-use Rattle.listing.specs.Tallies.{Counted, raised}
 use Rattle.sheet.specs.Steps.{ended_at}
 use Rattle.sheet.proofs.Steps.{if_looked, hands_out, comes_to_end}
 use Rattle.sheet.proofs.paper.Sheet.next.Goals as goal
 
-pub returns-in_default-true-true : goal.returns-in_default-true-true
-returns-in_default-true-true g c =
-    let s = c.args.self.now in
-    let bank = g.M.Module.meaning s.bank in
-    let u = c.look-found.new.self in
+pub returns-in_default-true-true-clause-stepped : goal.returns-in_default-true-true-clause-stepped
+returns-in_default-true-true-clause-stepped g c =
+    let s = contents c.args.self.now in
+    let u = contents c.look-found.new.self in
+    let bank = g.M.Module.meaning c.args.self.now.bank in
     let set = c.look-found.new.plan in
+    let size = length c.args.buffer.now in
     let looked = c.in_default-true-true.ensures in
-    let same_size : length (vec_items u.levels) ≡ length (vec_items s.levels) = ap (λ x. length x.levels) looked.opened in
-    let fits : length c.args.buffer.now ≡ length (vec_items s.levels) = omega (arith, same_size, u.levels.ok.0, c.look-found.auto.plan) in
-    let tallied : length (vec_items s.tallies) ≡ length (vec_items s.levels) = omega (arith, s.tallied, s.tallies.ok.0, s.levels.ok.0) in
-    let room : length c.count.new.tallies ≡ vec_len u.tallies = c.count.auto.tallies ∙ c.as_mut_slice.ensures.len in
-    let goes : GoesOn (listing_of s.listing) (in_force bank (contents s)) (contents s).opened (contents u).opened set true =
-    if_looked (listing_of s.listing) (in_force bank (contents s)) (contents s).opened (contents u).opened set true (length c.args.buffer.now) (length (vec_items s.levels)) fits looked.looked in
-    record {
-      same = looked.same;
-      kept = search rules;
-      stepped = hands_out bank (contents s) _ (contents u).opened set (length c.args.buffer.now) (omega (arith, s.levels.ok.0)) fits goes tallied (record {
-        levels = ap (λ x. x.levels) looked.opened;
-        rules = ap (λ x. x.rules) looked.opened;
-        handed = c.saturating_add-self.ensures ∙ ap (λ x. raised x.handed) looked.opened;
-        listing = c.after_plan.ensures;
-        tallies = subst (λ before. Counted set before (with_items u.tallies c.count.new.tallies).items) (c.as_mut_slice.ensures.value ∙ ap (λ x. x.tallies) looked.opened)
-            (subst (λ after. Counted set c.as_mut_slice.result.now after) (sym (with_items_is u.tallies c.count.new.tallies room)) c.count.ensures);
-        opened = refl;
-      });
-    }
+    let laid : 0 < length s.levels = ltb-true 0 (length s.levels) (sym c.if-not-is_laid.ensures) in
+    let fits : size ≡ length s.levels = search rules in
+    let tallied : length s.tallies ≡ length s.levels = search rules in
+    let levels : u.levels ≡ s.levels = ap (λ x. x.levels) looked.opened in
+    let lines : u.rules ≡ s.rules = ap (λ x. x.rules) looked.opened in
+    let handed : u.handed ≡ s.handed = ap (λ x. x.handed) looked.opened in
+    let tallies : u.tallies ≡ s.tallies = ap (λ x. x.tallies) looked.opened in
+    let written : (with_items c.look-found.new.self.parts.tallies c.count.new.tallies).items ≡ c.count.new.tallies = with_items_is c.look-found.new.self.parts.tallies c.count.new.tallies (search rules) in
+    let counted : Counted set s.tallies (with_items c.look-found.new.self.parts.tallies c.count.new.tallies).items = search rules in
+    hands_out bank s _ u.opened set size laid fits (if_looked s.listing (in_force bank s) s.opened u.opened set true size (length s.levels) fits looked.looked) tallied (search rules)
 
-pub returns-in_default-true-false : goal.returns-in_default-true-false
-returns-in_default-true-false g c =
-    let s = c.args.self.now in
-    let bank = g.M.Module.meaning s.bank in
-    let u = c.look-found.new.self in
+pub returns-in_default-true-false-clause-stepped : goal.returns-in_default-true-false-clause-stepped
+returns-in_default-true-false-clause-stepped g c =
+    let s = contents c.args.self.now in
+    let u = contents c.look-found.new.self in
+    let bank = g.M.Module.meaning c.args.self.now.bank in
     let set = c.look-found.new.plan in
+    let size = length c.args.buffer.now in
     let looked = c.in_default-true-false.ensures in
-    let same_size : length (vec_items u.levels) ≡ length (vec_items s.levels) = ap (λ x. length x.levels) looked.opened in
-    let fits : length c.args.buffer.now ≡ length (vec_items s.levels) = omega (arith, same_size, u.levels.ok.0, c.look-found.auto.plan) in
-    let going : is_full (listing_of u.listing) ≡ false = search rules in
-    record {
-      same = looked.same;
-      kept = λ _. looked.kept refl;
-      stepped = comes_to_end bank (contents s) _ (contents u).opened set (length c.args.buffer.now) (omega (arith, s.levels.ok.0)) fits
-          (if_looked (listing_of s.listing) (in_force bank (contents s)) (contents s).opened (contents u).opened set false (length c.args.buffer.now) (length (vec_items s.levels)) fits looked.looked)
-          (ap (λ x. is_full x.listing) (sym looked.opened) ∙ going) (ap (λ x. ended_at x (contents u).opened) looked.opened);
-    }
+    let laid : 0 < length s.levels = ltb-true 0 (length s.levels) (sym c.if-not-is_laid.ensures) in
+    let fits : size ≡ length s.levels = search rules in
+    let going : is_full u.listing ≡ false = search rules in
+    comes_to_end bank s _ u.opened set size laid fits (if_looked s.listing (in_force bank s) s.opened u.opened set false size (length s.levels) fits looked.looked)
+    (ap (λ x. is_full x.listing) (sym looked.opened) ∙ going) (ap (λ x. ended_at x u.opened) looked.opened)
