@@ -15,7 +15,8 @@ enter-requires g c =
     let checked = c.in_ok-line.ensures in
     let below : T (rule_below (length (vec_items self.parts.levels)) (line c.args.head c.args.body.now)) = enter_below st c.args.head c.args.body.now (sym checked.checked.finds) in
     let n : length (vec_items self.parts.levels) ≡ atoms_in self.parts.rules = omega (arith, self.parts.ruled, self.parts.levels.ok.0) in
-    let few : length (contents self).rules < 512 = checked.few refl in (
-      subst (λ r. T (rule_below (atoms_in self.parts.rules) r)) (sym checked.made) (subst (λ n. T (rule_below n (line c.args.head c.args.body.now))) n below),
-      omega (arith, self.parts.rules.lines.ok.0, length-map (vec_items self.parts.rules.lines) rule_of),
-    )
+    let few : length (contents self).rules < 512 = checked.few refl in
+    record {
+      below = subst (λ r. T (rule_below (atoms_in self.parts.rules) r)) (sym checked.made) (subst (λ n. T (rule_below n (line c.args.head c.args.body.now))) n below);
+      few = omega (arith, self.parts.rules.lines.ok.0, length-map (vec_items self.parts.rules.lines) rule_of);
+    }
