@@ -1,6 +1,7 @@
 //! What a record or a text is refused for, and where.
 ghost use Rattle.std.specs.Prelude.{◌≡◌};
 ghost use Rattle.faults.specs.declared.Fault.TheVariants.{Memory};
+ghost use Rattle.records.specs.Reading.{at_byte};
 
 use faults::Fault;
 use std::alloc::{AllocError, AllocFailed as Unstored};
@@ -10,6 +11,14 @@ use std::alloc::{AllocError, AllocFailed as Unstored};
 pub struct Refusal {
     pub fault: Fault,
     pub byte: usize,
+}
+
+impl Refusal {
+    pub fn at(fault: Fault, byte: usize) -> Refusal
+        ensures { result ≡ at_byte fault byte }
+    {
+        Refusal { fault, byte }
+    }
 }
 
 // A fault with its line, from 1, and the byte of that line; a fault of the whole text has line 0 and byte 0.
@@ -25,7 +34,7 @@ impl From<Fault> for Refusal {
     ghost from_gives = { λ e r. r ≡ record { fault = e; byte = 0 } };
 
     fn from(fault: Fault) -> Refusal {
-        Refusal { fault, byte: 0 }
+        Refusal::at(fault, 0)
     }
 }
 
@@ -33,10 +42,7 @@ impl<T: Drop> From<Unstored<T>> for Refusal {
     ghost from_gives = { λ e r. r ≡ record { fault = Memory; byte = 0 } };
 
     fn from(_e: Unstored<T>) -> Refusal {
-        Refusal {
-            fault: Fault::Memory,
-            byte: 0,
-        }
+        Refusal::from(Fault::Memory)
     }
 }
 
