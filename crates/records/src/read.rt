@@ -67,7 +67,8 @@ pub fn read_body(names: &Names, fields: Fields) -> Result<Body, Refusal>
 {
     let mut body = Body::empty();
     for field in fields {
-        body.push(read_literal(names, field)?);
+        let literal = read_literal(names, field)?;
+        body.push(literal);
     }
     Ok(body)
 }

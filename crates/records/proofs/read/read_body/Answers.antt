@@ -7,11 +7,11 @@ use Rattle.records.proofs.read.read_body.Goals as goal
 
 pub loop-field-preserved : goal.loop-field-preserved
 loop-field-preserved c =
-    let few : length (held c.push.new.self) ≤ 9 = rw c.push.ensures (omega (arith, length-take 9 (held c.loop-field.body ++ c.in_ok-read_literal.field-0 ∷ []))) in (
+    let few : length (held c.push.new.self) ≤ 9 = rw c.push.ensures (omega (arith, length-take 9 (held c.loop-field.body ++ c.in_ok-literal.literal ∷ []))) in (
       tt,
       tt,
       few,
-      gathered_step (declared c.args.names.now) (held c.loop-field.body) (held c.push.new.self) c.in_ok-read_literal.field-0 (shown c.in-Some.field) (left c.loop-field.field-iterator) (left c.next.new.self) c.in-Some.ensures.steps c.in_ok-read_literal.ensures c.push.ensures
+      gathered_step (declared c.args.names.now) (held c.loop-field.body) (held c.push.new.self) c.in_ok-literal.literal (shown c.in-Some.field) (left c.loop-field.field-iterator) (left c.next.new.self) c.in-Some.ensures.steps c.in_ok-literal.ensures c.push.ensures
           ∙ c.loop-field.invariant.3,
     )
 
