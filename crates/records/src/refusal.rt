@@ -19,6 +19,17 @@ impl Refusal {
     {
         Refusal { fault, byte }
     }
+
+    // The same with the line of its record.
+    pub fn with_line(self, line: usize) -> Refused
+        ensures { result ≡ record { fault = self.fault; line = line; byte = self.byte } }
+    {
+        Refused {
+            fault: self.fault,
+            line,
+            byte: self.byte,
+        }
+    }
 }
 
 // A fault with its line, from 1, and the byte of that line; a fault of the whole text has line 0 and byte 0.
@@ -46,15 +57,24 @@ impl<T: Drop> From<Unstored<T>> for Refusal {
     }
 }
 
+// A fault of the whole text.
+impl From<Fault> for Refused {
+    ghost from_gives = { λ e r. r ≡ record { fault = e; line = 0; byte = 0 } };
+
+    fn from(fault: Fault) -> Refused {
+        Refused {
+            fault,
+            line: 0,
+            byte: 0,
+        }
+    }
+}
+
 // Want of memory has no place in the text.
 impl From<AllocError> for Refused {
     ghost from_gives = { λ e r. r ≡ record { fault = Memory; line = 0; byte = 0 } };
 
     fn from(_e: AllocError) -> Refused {
-        Refused {
-            fault: Fault::Memory,
-            line: 0,
-            byte: 0,
-        }
+        Refused::from(Fault::Memory)
     }
 }
