@@ -66,9 +66,8 @@ impl<'a> Reader<'a> {
         self.at += line.bytes.len() + 1;
         self.line += 1;
         let mut fields = Fields::of(line.bytes);
-        let letter = open_record(self.last, &mut fields).map_err(|refusal| refusal.with_line(
-            self.line,
-        ))?;
+        let opened = open_record(self.last, &mut fields);
+        let letter = opened.map_err(|refusal| refusal.with_line(self.line))?;
         self.last = letter;
         Ok(Some(fields))
     }
