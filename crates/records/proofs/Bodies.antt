@@ -4,7 +4,6 @@ use Rattle.std.proofs.lemmas.List.{append_assoc, append-nil, take_all}
 use Rattle.records.specs.declared.refusal.Refusal.{Refusal}
 use Rattle.records.specs.declared.body.Placed.{Placed}
 use Rattle.fields.specs.Pieces.{Field}
-use Rattle.records.specs.Shown.{up_to_nine}
 use Rattle.records.specs.Reading.{then, literal_in, literals}
 
 -- what was gathered, and then what is still to be read
@@ -16,10 +15,6 @@ pub take_cut : {X : Type 0} (n : ℕ) (xs ys : List X) → take n (take n xs ++ 
 take_cut zero xs ys = refl
 take_cut (suc n) [] ys = refl
 take_cut (suc n) (x ∷ xs) ys = ap (λ r. x ∷ r) (take_cut n xs ys)
-
-pub gathered_none : (r : Result (List Placed) Refusal) → gathered [] r ≡ up_to_nine r
-gathered_none (Ok rest) = refl
-gathered_none (Err refusal) = refl
 
 pub gathered_all : (kept : List Placed) → length kept ≤ 9 → gathered kept (Ok []) ≡ Ok kept
 gathered_all kept h = ap Ok (ap (take 9) (append-nil kept) ∙ take_all 9 kept h)
