@@ -1,4 +1,2 @@
 pub mod Wholes
-pub mod Openings
-pub mod Sayings
 pub mod Declarations

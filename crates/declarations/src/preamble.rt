@@ -50,7 +50,7 @@ impl<'a> Preamble<'a> {
         ensures { Declares letters.Row (saying self.old) (saying self.new) (left fields.entry) result }
     {
         let row = read_row(&self.names, fields)?;
-        self.table.push_row(row.one, row.other, row.to)?;
+        self.table.push_row(row.pair)?;
         self.outs.push(row.byte)?;
         Ok(())
     }

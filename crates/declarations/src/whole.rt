@@ -37,16 +37,8 @@ pub fn in_line(refusal: Refusal, line: usize) -> Refused
     ensures memory { refusal.fault ≡ Memory → result ≡ no_memory }
 {
     match refusal.fault {
-        Fault::Memory => Refused {
-            fault: Fault::Memory,
-            line: 0,
-            byte: 0,
-        },
-        fault => Refused {
-            fault,
-            line,
-            byte: refusal.byte,
-        },
+        Fault::Memory => Refused::from(Fault::Memory),
+        _ => refusal.with_line(line),
     }
 }
 
@@ -74,17 +66,10 @@ impl<'a> Reader<'a> {
         self.at += line.bytes.len() + 1;
         self.line += 1;
         let mut fields = Fields::of(line.bytes);
-        match open_record(self.last, &mut fields) {
-            Ok(letter) => {
-                self.last = letter;
-                Ok(Some(fields))
-            }
-            Err(refusal) => Err(Refused {
-                fault: refusal.fault,
-                line: self.line,
-                byte: refusal.byte,
-            }),
-        }
+        let opened = open_record(self.last, &mut fields);
+        let letter = opened.map_err(|refusal| refusal.with_line(self.line))?;
+        self.last = letter;
+        Ok(Some(fields))
     }
 
     // The same where the record is a declaration; before a line or a bar the reader stays.

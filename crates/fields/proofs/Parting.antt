@@ -1,23 +1,21 @@
 -- A text's next line and a line's next field, by how far the next separator is.
-use Rattle.std.proofs.Common.{◌≡◌, ℕ, suc, ◌+◌, ◌-◌, ◌<◌, ◌≤◌, Bool, true, false, cond, eqb, ltb, leb, List, [], ◌∷◌, length, get_or, take, drop, sym, refl, ap, ◌∙◌, ⊎_elim, arith}
-use Rattle.std.proofs.lemmas.List.{at_drop_more, at_drop_all, drop-drop, length-drop, length-take-le}
-use Rattle.std.proofs.lemmas.Bool.{eq-eqb, ne_eqb, le-leb, lt-leb, lt-ltb, le-ltb, cases_lt}
+use Rattle.std.proofs.Common.{◌≡◌, ℕ, suc, ◌+◌, ◌-◌, ◌<◌, ◌≤◌, Bool, true, false, cond, eqb, ltb, leb, List, [], ◌∷◌, length, take, drop, sym, refl, ap, ◌∙◌, ⊎_elim, inl, inr, not, arith}
+use Rattle.std.specs.List.{position, position_or_len}
+use Rattle.std.specs.Option.{unwrap_or}
+use Rattle.std.proofs.lemmas.List.Sums.{prefix_len-le-length}
+use Rattle.std.proofs.lemmas.List.Recursion.{is_position_or_len}
+use Rattle.std.proofs.lemmas.List.{drop-drop, length-drop, length-take-le}
+use Rattle.std.proofs.lemmas.Bool.{le-leb, lt-leb, lt-ltb, le-ltb, cases_lt}
 use Rattle.fields.specs.Pieces.{run, onto, lines_of, fields_of, Field, placed, fields_from}
 
-pub run_more : (c : ℕ) (xs : List ℕ) (i : ℕ) → i < length xs → (get_or xs i 0 ≡ c → ⊥) → run c (drop i xs) ≡ 1 + run c (drop (i + 1) xs)
-run_more c xs i h e =
-    let m : run c (drop i xs) ≡ cond (eqb (get_or xs i 0) c) 0 (1 + run c (drop (i + 1) xs)) = at_drop_more (run c) xs i 0 h in
-    let t : eqb (get_or xs i 0) c ≡ false = ne_eqb _ _ e in
-    m ∙ rw t
-
-pub run_stop : (c : ℕ) (xs : List ℕ) (i : ℕ) → i < length xs → get_or xs i 0 ≡ c → run c (drop i xs) ≡ 0
-run_stop c xs i h e =
-    let m : run c (drop i xs) ≡ cond (eqb (get_or xs i 0) c) 0 (1 + run c (drop (i + 1) xs)) = at_drop_more (run c) xs i 0 h in
-    let t : eqb (get_or xs i 0) c ≡ true = eq-eqb _ _ e in
-    m ∙ rw t
-
-pub run_end : (c : ℕ) (xs : List ℕ) (i : ℕ) → length xs ≤ i → run c (drop i xs) ≡ 0
-run_end c xs i h = at_drop_all (run c) xs i h
+-- the first separator's place, or where there is none, the length
+pub run_is_position : (c : ℕ) (xs : List ℕ) → run c xs ≡ unwrap_or (position (λ b. eqb b c) xs) (length xs)
+run_is_position c xs =
+    is_position_or_len (run c) (λ b. eqb b c) refl (λ b bs. refl) xs
+    ∙ elim (cases_lt (position_or_len (λ b. eqb b c) xs) (length xs)) [
+      | inl l ↦ rw (lt-ltb _ _ l) refl
+      | inr l ↦ rw (le-ltb _ _ l) (omega (arith, prefix_len-le-length (λ b. not (eqb b c)) xs))
+    ]
 
 pub run_le : (c : ℕ) (xs : List ℕ) → run c xs ≤ length xs
 run_le c [] = omega arith
@@ -92,9 +90,6 @@ from_step at line h =
     go true k fs f = refl
     go false k fs f = refl
 
-pub from_end : (at : ℕ) (line : List ℕ) → length line < at → fields_from at line ≡ []
-from_end at line h = let t : leb at (length line) ≡ false = lt-leb _ _ h in rw t
-
 -- the same steps, by a part that ends at the next separator
 pub next_field : (at : ℕ) (line bytes : List ℕ) (start : ℕ) → at ≤ length line → start ≡ at
     → bytes ≡ take (run 44 (drop at line)) (drop at line) → length bytes ≡ run 44 (drop at line)
@@ -112,23 +107,3 @@ next_line at text bytes h e l =
     let a : at + length bytes + 1 ≡ at + (r + 1) = omega arith in
     let d : drop (r + 1) (drop at text) ≡ drop (at + (r + 1)) text = drop-drop (r + 1) at text in
     lines_step (drop at text) n ∙ rw (a, e, ← d)
-
--- the same with what the line's part is known by another name
-pub opened_line : (at : ℕ) (text bytes line : List ℕ) → lines_of (drop at text) ≡ bytes ∷ lines_of (drop (at + length bytes + 1) text) → line ≡ bytes
-    → lines_of (drop at text) ≡ line ∷ lines_of (drop (at + (length bytes + 1)) text)
-opened_line at text bytes line e l =
-    let a : at + (length bytes + 1) ≡ at + length bytes + 1 = omega arith in
-    rw (a, l) e
-
--- two fields, and not more or less
-pub none_is_not_two : {X : Type 0} (xs : List X) → xs ≡ [] → length xs ≡ 2 → ⊥
-none_is_not_two xs e h = let n = ap length e in omega arith
-
-pub one_is_not_two : {X : Type 0} (xs ys : List X) (x : X) → xs ≡ x ∷ ys → ys ≡ [] → length xs ≡ 2 → ⊥
-one_is_not_two xs ys x e f h = let n = ap length e in let m = ap length f in omega arith
-
-pub more_than_two : {X : Type 0} (xs ys zs ws : List X) (x y z : X) → xs ≡ x ∷ ys → ys ≡ y ∷ zs → zs ≡ z ∷ ws → length xs ≡ 2 → ⊥
-more_than_two xs ys zs ws x y z e f g h = let n = ap length e in let m = ap length f in let k = ap length g in omega arith
-
-pub just_two : {X : Type 0} (xs ys zs : List X) (x y : X) → xs ≡ x ∷ ys → ys ≡ y ∷ zs → zs ≡ [] → xs ≡ x ∷ y ∷ []
-just_two xs ys zs x y e f g = cc

@@ -1,12 +1,12 @@
 -- Declared names, in the order of their atoms' numbers.
-use Rattle.std.specs.Prelude.{◌≡◌, ℕ, ◌+◌, ◌<◌, ◌≤◌, cond, List, [], ◌∷◌, map, length, Some, None, Option, slice_index_or}
+use Rattle.std.specs.Prelude.{◌≡◌, ℕ, ◌<◌, ◌≤◌, List, [], map, length, Some, None, Option, slice_index_or}
 use Rattle.std.specs.Borrow.{Bor}
+use Rattle.std.specs.List.{position_from}
 use Rattle.std.specs.Str.{bytes_eq}
 
 -- the first place of a name among those from place k on
 abbrev pub place_from : ℕ → List (List ℕ) → List ℕ → Option ℕ
-place_from k [] name = None
-place_from k (other ∷ names) name = cond (bytes_eq other name) (Some k) (place_from (k + 1) names name)
+place_from k names name = position_from (λ other. bytes_eq other name) k names
 
 -- the atom that has a name
 abbrev pub place_of : List (List ℕ) → List ℕ → Option ℕ

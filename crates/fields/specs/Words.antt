@@ -1,5 +1,6 @@
 -- What a field can be: a record's letter, a name, a level, a literal.
-use Rattle.std.specs.Prelude.{ℕ, ◌+◌, ◌-◌, Bool, true, false, cond, ◌&&◌, ◌||◌, List, [], ◌∷◌, length, Some, None, Option, ◌==◌, nat_le, nat_lt}
+use Rattle.std.specs.Prelude.{ℕ, ◌+◌, ◌-◌, Bool, false, cond, ◌&&◌, ◌||◌, List, [], ◌∷◌, length, Some, None, Option, ◌==◌, nat_le, nat_lt}
+use Rattle.std.specs.List.{list_all}
 use Rattle.semantics.specs.declared.Side.{Side}
 use Rattle.semantics.specs.declared.Side.TheVariants.{Present, Absent}
 use Rattle.fields.specs.declared.field.Letter.{Letter}
@@ -23,8 +24,7 @@ abbrev pub is_inner : ℕ → Bool
 is_inner b = is_small b || ((nat_le 65 b && nat_le b 90) || ((nat_le 48 b && nat_le b 57) || b == 95))
 
 abbrev pub all_inner : List ℕ → Bool
-all_inner [] = true
-all_inner (b ∷ bs) = is_inner b && all_inner bs
+all_inner = list_all is_inner
 
 -- a small letter, and at most 15 inner bytes
 abbrev pub is_name : List ℕ → Bool

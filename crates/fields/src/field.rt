@@ -5,7 +5,7 @@ ghost use Rattle.fields.specs.Words.{letter_in, letter_of, digit_up_to, is_small
 use semantics::Side;
 
 // The four kinds of records, by their first field.
-#[derive(Clone, Copy)]
+#[derive(Clone, Copy, PartialEq, Eq, Debug)]
 pub enum Letter {
     Atom,
     Row,
@@ -47,30 +47,19 @@ pub fn is_name(field: &[u8]) -> bool
 fn is_small(byte: u8) -> bool
     ensures { result ≡ is_small byte }
 {
-    match byte as char {
-        'a'..='z' => true,
-        _ => false,
-    }
+    matches!(byte as char, 'a'..='z')
 }
 
 fn is_inner(byte: u8) -> bool
     ensures { result ≡ is_inner byte }
 {
-    match byte as char {
-        'a'..='z' | 'A'..='Z' | '0'..='9' | '_' => true,
-        _ => false,
-    }
+    matches!(byte as char, 'a'..='z' | 'A'..='Z' | '0'..='9' | '_')
 }
 
 fn all_inner(rest: &[u8]) -> bool
     ensures { result ≡ all_inner rest.now }
 {
-    for byte in rest {
-        if !is_inner(*byte) {
-            return false;
-        }
-    }
-    true
+    rest.iter().all(|byte| is_inner(*byte))
 }
 
 // A level: one of the texts 0 to 15.
@@ -86,7 +75,8 @@ pub fn level_of(field: &[u8]) -> Option<u8>
 
 // The digit's value and what stands before it, where the digit is not above `top`.
 fn last_digit(digit: u8, top: u8, tens: u8) -> Option<u8>
-    requires { (top ≤ 57) × (tens ≤ 10) }
+    requires top { top ≤ 57 }
+    requires tens { tens ≤ 10 }
     ensures { result ≡ digit_up_to top tens digit }
 {
     if b'0' <= digit && digit <= top {

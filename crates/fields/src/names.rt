@@ -5,6 +5,9 @@ ghost use Rattle.fields.specs.Places.{place_of, parts, NameAt};
 
 use std::alloc::{AllocError, Global};
 
+// How many atoms there can be.
+const ATOMS: usize = 256;
+
 #[derive(Drop)]
 pub struct Names<'a> {
     list: Vec<&'a [u8]>,
@@ -16,7 +19,7 @@ impl<'a> Names<'a> {
     pub fn new(heap: Global) -> Result<Names<'a>, AllocError>
         ensures { IfOk result (λ names. parts names.list.items ≡ []) }
     {
-        let list = Vec::with_capacity(heap, 256)?;
+        let list = Vec::with_capacity(heap, ATOMS)?;
         Ok(Names { list })
     }
 
@@ -24,12 +27,10 @@ impl<'a> Names<'a> {
     pub fn find(&self, name: &[u8]) -> Option<u16>
         ensures { result ≡ place_of (parts self.now.list.items) name.now }
     {
-        for i in 0..self.list.len() {
-            if self.list[i] == name {
-                return Some(i as u16);
-            }
-        }
-        None
+        self.list
+            .iter()
+            .position(|known| *known == name)
+            .map(|atom| atom as u16)
     }
 
     // How many names there are.
@@ -43,11 +44,7 @@ impl<'a> Names<'a> {
     pub fn get(&self, atom: usize) -> Option<&'a [u8]>
         ensures { NameAt (parts self.now.list.items) atom result }
     {
-        if atom < self.list.len() {
-            Some(self.list[atom])
-        } else {
-            None
-        }
+        self.list.get(atom).copied()
     }
 
     // All names, in the order of their atoms' numbers.
@@ -62,7 +59,7 @@ impl<'a> Names<'a> {
         ensures test { result ≡ nat_lt (length (parts self.old.list.items)) 256 }
         ensures after { parts self.new.list.items ≡ (if result then parts self.old.list.items ++ name.now ∷ [] else parts self.old.list.items) }
     {
-        if self.list.len() < 256 {
+        if self.list.len() < ATOMS {
             self.list.push_reserved(name);
             true
         } else {

@@ -1,5 +1,6 @@
 //! Lines of a text and fields of a line, as parts of the caller's bytes with their offset.
-ghost use Rattle.std.specs.Prelude.{◌≡◌, ◌+◌, ◌≤◌, [], ◌∷◌, length, take, drop, MatchOption, ◌≢◌};
+ghost use Rattle.std.specs.Prelude.{◌≡◌, ◌+◌, ◌≤◌, [], ◌∷◌, length, take, drop, MatchOption, IfSome, ◌≢◌};
+ghost use Rattle.std.specs.Iterator.{YieldsFirstBy, item_count};
 ghost use Rattle.fields.specs.Pieces.{run, lines_of, fields_from};
 ghost use Rattle.fields.specs.Shown.{shown, left};
 
@@ -11,26 +12,30 @@ pub struct Part<'a> {
 }
 
 // The part that begins at `at` and ends before the next `separator`, or with the bytes.
-pub fn part_at<'a>(bytes: &'a [u8], at: usize, separator: u8) -> Part<'a>
+fn part_at<'a>(bytes: &'a [u8], at: usize, separator: u8) -> Part<'a>
     requires { at ≤ length bytes.now }
     ensures starts { result.at ≡ at }
     ensures part { result.bytes.now ≡ take (run separator (drop at bytes.now)) (drop at bytes.now) }
     ensures long { length result.bytes.now ≡ run separator (drop at bytes.now) }
     ensures within { at + length result.bytes.now ≤ length bytes.now }
 {
-    let mut end = at;
-    while end < bytes.len() && bytes[end] != separator {
-        end += 1;
-    }
+    let rest = &bytes[at..];
+    let len = rest
+        .iter()
+        .position(|byte| *byte == separator)
+        .unwrap_or(rest.len());
     Part {
-        bytes: &bytes[at..end],
+        bytes: &rest[..len],
         at,
     }
 }
 
 // The line that begins at `at`, without the byte 10 that ends it.
 pub fn line_at<'a>(text: &'a [u8], at: usize) -> Option<Part<'a>>
-    ensures { MatchOption result (lines_of (drop at text.now) ≡ []) (λ p. (p.at ≡ at) × (lines_of (drop at text.now) ≡ p.bytes.now ∷ lines_of (drop (at + length p.bytes.now + 1) text.now)) × (p.bytes.now ≡ take (length p.bytes.now) (drop at text.now)) × (at + length p.bytes.now ≤ length text.now)) }
+    ensures lines { MatchOption result (lines_of (drop at text.now) ≡ []) (λ p. lines_of (drop at text.now) ≡ p.bytes.now ∷ lines_of (drop (at + length p.bytes.now + 1) text.now)) }
+    ensures starts { IfSome result (λ p. p.at ≡ at) }
+    ensures part { IfSome result (λ p. p.bytes.now ≡ take (length p.bytes.now) (drop at text.now)) }
+    ensures within { IfSome result (λ p. at + length p.bytes.now ≤ length text.now) }
 {
     if at < text.len() {
         Some(part_at(text, at, b'\n'))
@@ -54,17 +59,6 @@ impl<'a> Fields<'a> {
         Fields { line, at: 0 }
     }
 
-    pub fn next(&mut self) -> Option<Part<'a>>
-        ensures { MatchOption result ((left self.old ≡ []) × (left self.new ≡ [])) (λ p. left self.old ≡ shown p ∷ left self.new) }
-    {
-        if self.at > self.line.len() {
-            return None;
-        }
-        let field = part_at(self.line, self.at, b',');
-        self.at += field.bytes.len() + 1;
-        Some(field)
-    }
-
     // The fields that are left, where there are exactly two of them.
     pub fn two(mut self) -> Option<(Part<'a>, Part<'a>)>
         ensures { MatchOption result (length (left self.entry) ≢ 2) (λ p. left self.entry ≡ shown p.0 ∷ shown p.1 ∷ []) }
@@ -84,5 +78,22 @@ impl<'a> Fields<'a> {
         let first = self.next()?;
         let (second, third) = self.two()?;
         Some((first, second, third))
+    }
+}
+
+impl<'a> Iterator for Fields<'a> {
+    type Item = Part<'a>;
+
+    ghost next_gives = { YieldsFirstBy shown left };
+
+    ghost remaining = { item_count left };
+
+    fn next(&mut self) -> Option<Part<'a>> {
+        if self.at > self.line.len() {
+            return None;
+        }
+        let field = part_at(self.line, self.at, b',');
+        self.at += field.bytes.len() + 1;
+        Some(field)
     }
 }

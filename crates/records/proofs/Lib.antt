@@ -1,3 +1,1 @@
 pub mod Bodies
-pub mod Lookups
-pub mod Records

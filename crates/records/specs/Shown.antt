@@ -1,16 +1,18 @@
 -- What the code's own structs stand for.
 use Rattle.std.specs.Prelude.{ℕ, List, take, Ok, Err, Result}
-use Rattle.records.specs.Bodies.{placed_at}
+use Rattle.modules.specs.Tables.{row_of}
 use Rattle.records.specs.Reading.{AtomRecord, RowRecord, LineRecord}
 use Rattle.records.specs.declared.refusal.Refusal.{Refusal}
 use Rattle.records.specs.declared.body.Placed.{Placed}
 use Rattle.records.specs.declared.body.Body.{Body}
 use Rattle.records.specs.declared.record.Row.{Row}
 use Rattle.records.specs.declared.record.Line.{Line}
+use Rattle.records.specs.declared.record.Section.{Section}
+use Rattle.records.specs.declared.record.Section.TheVariants.{Atoms, Rows, Lines}
 
 -- the literals that a body holds
 abbrev pub held : Body → List Placed
-held body = placed_at (take body.count body.literals) (take body.count body.bytes)
+held body = body.placed.items
 
 abbrev pub held_in : Result Body Refusal → Result (List Placed) Refusal
 held_in (Ok body) = Ok (held body)
@@ -28,7 +30,7 @@ level_said (Err refusal) = Err refusal
 
 -- what the record of a row says
 abbrev pub row_said : Result Row Refusal → Result RowRecord Refusal
-row_said (Ok r) = Ok (record { row = record { one = r.one; other = r.other; to = r.to }; out = r.byte })
+row_said (Ok r) = Ok (record { row = row_of r.pair; out = r.byte })
 row_said (Err refusal) = Err refusal
 
 -- what the record of a line or a bar says
@@ -40,3 +42,9 @@ line_said (Err refusal) = Err refusal
 abbrev pub nine_of : Result LineRecord Refusal → Result LineRecord Refusal
 nine_of (Ok l) = Ok (record { head = l.head; body = take 9 l.body })
 nine_of (Err refusal) = Err refusal
+
+-- the order of the three sections of a text
+abbrev pub section_rank : Section → ℕ
+section_rank Atoms = 0
+section_rank Rows = 1
+section_rank Lines = 2

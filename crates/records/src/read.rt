@@ -16,52 +16,31 @@ use semantics::Literal;
 pub fn read_known(names: &Names, field: Part) -> Result<u16, Refusal>
     ensures { result ≡ known (declared names.now) (shown field.entry) }
 {
-    let byte = field.at;
     if !is_name(field.bytes) {
-        return Err(Refusal {
-            fault: Fault::MalformedName,
-            byte,
-        });
+        return Err(Refusal::at(Fault::MalformedName, field.at));
     }
-    match names.find(field.bytes) {
-        Some(atom) => Ok(atom),
-        None => Err(Refusal {
-            fault: Fault::UnknownName,
-            byte,
-        }),
-    }
+    names
+        .find(field.bytes)
+        .ok_or(Refusal::at(Fault::UnknownName, field.at))
 }
 
 // That a name is well formed and not declared yet.
 pub fn read_unused(names: &Names, field: Part) -> Result<(), Refusal>
     ensures { result ≡ unused (declared names.now) (shown field.entry) }
 {
-    let byte = field.at;
     if !is_name(field.bytes) {
-        return Err(Refusal {
-            fault: Fault::MalformedName,
-            byte,
-        });
+        return Err(Refusal::at(Fault::MalformedName, field.at));
     }
-    match names.find(field.bytes) {
-        Some(_) => Err(Refusal {
-            fault: Fault::NameTwice,
-            byte,
-        }),
-        None => Ok(()),
+    if names.find(field.bytes).is_some() {
+        return Err(Refusal::at(Fault::NameTwice, field.at));
     }
+    Ok(())
 }
 
 pub fn read_level(field: Part) -> Result<u8, Refusal>
     ensures { result ≡ leveled (shown field.entry) }
 {
-    match level_of(field.bytes) {
-        Some(level) => Ok(level),
-        None => Err(Refusal {
-            fault: Fault::BadLevel,
-            byte: field.at,
-        }),
-    }
+    level_of(field.bytes).ok_or(Refusal::at(Fault::BadLevel, field.at))
 }
 
 pub fn read_literal(names: &Names, field: Part) -> Result<Placed, Refusal>
@@ -83,11 +62,11 @@ pub fn read_literal(names: &Names, field: Part) -> Result<Placed, Refusal>
 }
 
 // The literals of all fields that are left. Every one is read, and the first nine are kept.
-pub fn read_body(names: &Names, mut fields: Fields) -> Result<Body, Refusal>
+pub fn read_body(names: &Names, fields: Fields) -> Result<Body, Refusal>
     ensures { held_in result ≡ up_to_nine (literals (declared names.now) (left fields.entry)) }
 {
     let mut body = Body::empty();
-    while let Some(field) = fields.next() {
+    for field in fields {
         let literal = read_literal(names, field)?;
         body.push(literal);
     }

@@ -2,7 +2,7 @@
 ghost use Rattle.std.specs.Prelude.{◌≡◌};
 ghost use Rattle.records.specs.Reading.{atom_record, row_record, line_record, bar_record, line_by, with_name, opening, ordered, rank_of, tail};
 ghost use Rattle.fields.specs.Shown.{declared, left};
-ghost use Rattle.records.specs.Shown.{level_said, row_said, line_said, nine_of};
+ghost use Rattle.records.specs.Shown.{level_said, row_said, line_said, nine_of, section_rank};
 
 use crate::body::Body;
 use crate::read::{read_body, read_known, read_level, read_unused};
@@ -11,45 +11,33 @@ use faults::Fault;
 use fields::field::{Letter, letter_of};
 use fields::names::Names;
 use fields::part::Fields;
+use modules::rows::Pair;
 use semantics::Head;
 
-// A row of the pair table: where the atoms `one` and `other` are both present, it gives the atom `to`, whose
-// name begins at `byte`.
+// A row of the pair table, and the byte where the name of the atom that it gives begins.
 #[derive(Clone, Copy)]
 pub struct Row {
-    pub one: u16,
-    pub other: u16,
-    pub to: u16,
+    pub pair: Pair,
     pub byte: usize,
 }
 
 // A line or a bar.
-#[derive(Clone, Copy)]
+#[derive(Drop)]
 pub struct Line {
     pub head: Head,
     pub body: Body,
 }
-
-const MISCOUNTED: Refusal = Refusal {
-    fault: Fault::FieldCount,
-    byte: 0,
-};
 
 // The level of an atom. Its name is declared.
 pub fn read_atom<'a>(names: &mut Names<'a>, fields: Fields<'a>) -> Result<u8, Refusal>
     ensures says { result ≡ level_said (atom_record (declared names.old) (left fields.entry)) }
     ensures names { declared names.new ≡ with_name (declared names.old) (atom_record (declared names.old) (left fields.entry)) }
 {
-    let Some((name, level)) = fields.two() else {
-        return Err(MISCOUNTED);
-    };
+    let (name, level) = fields.two().ok_or(Fault::FieldCount)?;
     read_unused(names, name)?;
     let level = read_level(level)?;
     if !names.declare(name.bytes) {
-        return Err(Refusal {
-            fault: Fault::LevelCount,
-            byte: 0,
-        });
+        return Err(Refusal::from(Fault::LevelCount));
     }
     Ok(level)
 }
@@ -57,16 +45,12 @@ pub fn read_atom<'a>(names: &mut Names<'a>, fields: Fields<'a>) -> Result<u8, Re
 pub fn read_row(names: &Names, fields: Fields) -> Result<Row, Refusal>
     ensures { row_said result ≡ row_record (declared names.now) (left fields.entry) }
 {
-    let Some((first, second, out)) = fields.three() else {
-        return Err(MISCOUNTED);
-    };
+    let (first, second, out) = fields.three().ok_or(Fault::FieldCount)?;
     let one = read_known(names, first)?;
     let other = read_known(names, second)?;
     let to = read_known(names, out)?;
     Ok(Row {
-        one,
-        other,
-        to,
+        pair: Pair { one, other, to },
         byte: out.at,
     })
 }
@@ -84,9 +68,7 @@ pub fn read_line(letter: Letter, names: &Names, fields: Fields) -> Result<Line, 
 fn read_rule(names: &Names, mut fields: Fields) -> Result<Line, Refusal>
     ensures { line_said result ≡ nine_of (line_record (declared names.now) (left fields.entry)) }
 {
-    let Some(head) = fields.next() else {
-        return Err(MISCOUNTED);
-    };
+    let head = fields.next().ok_or(Fault::FieldCount)?;
     let atom = read_known(names, head)?;
     let body = read_body(names, fields)?;
     Ok(Line {
@@ -110,35 +92,34 @@ pub fn open_record(last: Letter, fields: &mut Fields) -> Result<Letter, Refusal>
     ensures letter { result ≡ opening last (left fields.old) }
     ensures rest { left fields.new ≡ tail (left fields.old) }
 {
-    match fields.next() {
-        Some(field) => in_order(last, letter_of(field.bytes)),
-        None => in_order(last, None),
-    }
+    let letter = fields.next().and_then(|field| letter_of(field.bytes));
+    in_order(last, letter)
 }
 
 fn in_order(last: Letter, letter: Option<Letter>) -> Result<Letter, Refusal>
     ensures { result ≡ ordered last letter }
 {
-    match letter {
-        None => Err(Refusal {
-            fault: Fault::UnknownLetter,
-            byte: 0,
-        }),
-        Some(letter) if rank(letter) < rank(last) => Err(Refusal {
-            fault: Fault::OutOfOrder,
-            byte: 0,
-        }),
-        Some(letter) => Ok(letter),
+    let letter = letter.ok_or(Fault::UnknownLetter)?;
+    if section_of(letter) < section_of(last) {
+        return Err(Refusal::from(Fault::OutOfOrder));
     }
+    Ok(letter)
 }
 
 // Atoms come first, then rows, then lines and bars.
-fn rank(letter: Letter) -> u8
-    ensures { result ≡ rank_of letter }
+#[derive(Clone, Copy, PartialEq, Eq, PartialOrd, Ord)]
+enum Section {
+    Atoms,
+    Rows,
+    Lines,
+}
+
+fn section_of(letter: Letter) -> Section
+    ensures { section_rank result ≡ rank_of letter }
 {
     match letter {
-        Letter::Atom => 0,
-        Letter::Row => 1,
-        Letter::Rule | Letter::Bar => 2,
+        Letter::Atom => Section::Atoms,
+        Letter::Row => Section::Rows,
+        Letter::Rule | Letter::Bar => Section::Lines,
     }
 }

@@ -1,6 +1,7 @@
 //! What a record or a text is refused for, and where.
 ghost use Rattle.std.specs.Prelude.{◌≡◌};
 ghost use Rattle.faults.specs.declared.Fault.TheVariants.{Memory};
+ghost use Rattle.records.specs.Reading.{at_byte};
 
 use faults::Fault;
 use std::alloc::{AllocError, AllocFailed as Unstored};
@@ -10,6 +11,25 @@ use std::alloc::{AllocError, AllocFailed as Unstored};
 pub struct Refusal {
     pub fault: Fault,
     pub byte: usize,
+}
+
+impl Refusal {
+    pub fn at(fault: Fault, byte: usize) -> Refusal
+        ensures { result ≡ at_byte fault byte }
+    {
+        Refusal { fault, byte }
+    }
+
+    // The same with the line of its record.
+    pub fn with_line(self, line: usize) -> Refused
+        ensures { result ≡ record { fault = self.fault; line = line; byte = self.byte } }
+    {
+        Refused {
+            fault: self.fault,
+            line,
+            byte: self.byte,
+        }
+    }
 }
 
 // A fault with its line, from 1, and the byte of that line; a fault of the whole text has line 0 and byte 0.
@@ -25,7 +45,7 @@ impl From<Fault> for Refusal {
     ghost from_gives = { λ e r. r ≡ record { fault = e; byte = 0 } };
 
     fn from(fault: Fault) -> Refusal {
-        Refusal { fault, byte: 0 }
+        Refusal::at(fault, 0)
     }
 }
 
@@ -33,8 +53,18 @@ impl<T: Drop> From<Unstored<T>> for Refusal {
     ghost from_gives = { λ e r. r ≡ record { fault = Memory; byte = 0 } };
 
     fn from(_e: Unstored<T>) -> Refusal {
-        Refusal {
-            fault: Fault::Memory,
+        Refusal::from(Fault::Memory)
+    }
+}
+
+// A fault of the whole text.
+impl From<Fault> for Refused {
+    ghost from_gives = { λ e r. r ≡ record { fault = e; line = 0; byte = 0 } };
+
+    fn from(fault: Fault) -> Refused {
+        Refused {
+            fault,
+            line: 0,
             byte: 0,
         }
     }
@@ -45,10 +75,6 @@ impl From<AllocError> for Refused {
     ghost from_gives = { λ e r. r ≡ record { fault = Memory; line = 0; byte = 0 } };
 
     fn from(_e: AllocError) -> Refused {
-        Refused {
-            fault: Fault::Memory,
-            line: 0,
-            byte: 0,
-        }
+        Refused::from(Fault::Memory)
     }
 }

@@ -4,7 +4,7 @@ use Rattle.std.proofs.lemmas.List.{take_all, take-map, get_or-take, length-map, 
 use Rattle.std.proofs.lemmas.Bool.{cases_lt, lt-ltb}
 use Rattle.faults.specs.Faults.{number_of}
 use Rattle.faults.specs.declared.Fault.{Fault}
-use Rattle.faults.specs.declared.Fault.TheVariants.{Memory, NeverLaid, LevelCount, LevelTooHigh, OutputOutOfRange, ReadsTooHigh, TooManyLines, HeadOutOfRange, TooManyLiterals, LiteralOutOfRange, LiteralAboveHead, WrongBuffer, ListingFull, NoSuchAtom, NotEnded, TableFull, UnknownLetter, MalformedName, UnknownName, NameTwice, OutOfOrder, BadLevel, FieldCount, NotWhole}
+use Rattle.faults.specs.declared.Fault.TheVariants.{Memory}
 use Rattle.semantics.specs.declared.Head.{Head}
 use Rattle.semantics.specs.declared.Literal.{Literal}
 use Rattle.semantics.specs.Rules.{Rule, head_below}
@@ -124,30 +124,3 @@ enters_not d rules n s t rows l body f byte e k state called place =
           ∙ ap (λ b. Err (record { number = number_of f; line = n; byte = b })) (sym place))
       | Err zero ↦ inr (number_zero f zero)
     ]
-
--- every fault but two points to the letter
-pub other_byte : (body : List Placed) (f : Fault) → (f ≡ TooManyLiterals → ⊥) → ((k : ℕ) → f ≡ LiteralAboveHead k → ⊥) → 0 ≡ enter_byte body (flaw f)
-other_byte body Memory eight ten = refl
-other_byte body NeverLaid eight ten = refl
-other_byte body LevelCount eight ten = refl
-other_byte body (LevelTooHigh k) eight ten = refl
-other_byte body (OutputOutOfRange k) eight ten = refl
-other_byte body (ReadsTooHigh k) eight ten = refl
-other_byte body TooManyLines eight ten = refl
-other_byte body HeadOutOfRange eight ten = refl
-other_byte body TooManyLiterals eight ten = absurd (eight refl)
-other_byte body (LiteralOutOfRange k) eight ten = refl
-other_byte body (LiteralAboveHead k) eight ten = absurd (ten k refl)
-other_byte body WrongBuffer eight ten = refl
-other_byte body ListingFull eight ten = refl
-other_byte body NoSuchAtom eight ten = refl
-other_byte body NotEnded eight ten = refl
-other_byte body TableFull eight ten = refl
-other_byte body UnknownLetter eight ten = refl
-other_byte body MalformedName eight ten = refl
-other_byte body UnknownName eight ten = refl
-other_byte body NameTwice eight ten = refl
-other_byte body OutOfOrder eight ten = refl
-other_byte body BadLevel eight ten = refl
-other_byte body FieldCount eight ten = refl
-other_byte body NotWhole eight ten = refl

@@ -1,5 +1,6 @@
 -- Laying the sheet.
 use Rattle.std.proofs.Common.{◌≡◌, ℕ, ◌+◌, Bool, true, false, cond, eqb, List, [], length, get_or, Some, None, Ok, Err, Option, Result, sym, refl, ap, ◌∙◌, subst, inl, inr, arith}
+use Rattle.std.specs.Result.{IsErrAnd}
 use Rattle.std.proofs.lemmas.Bool.{eqb-true}
 use Rattle.faults.specs.Faults.{number_of, place_of}
 use Rattle.faults.specs.declared.Fault.{Fault}
@@ -51,13 +52,14 @@ lays_ok rows bank-rows levels outs s t e made called =
       h.sound made.sound,
     )
 
-pub lays_not : (rows bank-rows : List PairRow) (levels outs : List ℕ) (s t : Contents) (f : Fault) (e : Refused) → bank-rows ≡ rows
-    → Made (pair_table rows) s → Laid (pair_table bank-rows) s t levels (Err f) → located e ≡ lay_place (length levels) outs (flaw f)
+pub lays_not : (rows bank-rows : List PairRow) (levels outs : List ℕ) (s t : Contents) (r : Result (Unit {0}) Fault) (e : Refused) → bank-rows ≡ rows
+    → Made (pair_table rows) s → Laid (pair_table bank-rows) s t levels r → IsErrAnd r (λ f. located e ≡ lay_place (length levels) outs (flaw f))
     → RefusedBy (laid_with rows levels outs) e
-lays_not rows bank-rows levels outs s t f e r made called place =
+lays_not rows bank-rows levels outs s t (Ok u) e same made called place = absurd place
+lays_not rows bank-rows levels outs s t (Err f) e same made called place =
     let bank = pair_table rows in
     let C : List PairRow → Type 0 = λ rs. Laid (pair_table rs) s t levels (Err f) in
-    let h : Laid bank s t levels (Err f) = subst C r called in
+    let h : Laid bank s t levels (Err f) = subst C same called in
     elim (refused_call bank s t (lay levels) f (eqb (number_of f) 0) refl h) [
       | Ok found ↦
           let there : fault (blank bank) (lay levels) ≡ Some (flaw f) = ap (λ st. fault st (lay levels)) (sym made.state_is) ∙ found in

@@ -35,15 +35,10 @@ pub fn load<'a>(heap: Global, text: &'a [u8]) -> Result<Loaded<'a>, Refused>
     ensures first_fault { Answers (read_text text.now) result }
     ensures law { Settles text.now result }
 {
-    if is_whole(text) {
-        load_lines(heap, text)
-    } else {
-        Err(Refused {
-            fault: Fault::NotWhole,
-            line: 0,
-            byte: 0,
-        })
+    if !is_whole(text) {
+        return Err(Refused::from(Fault::NotWhole));
     }
+    load_lines(heap, text)
 }
 
 // The same of a text's lines, whether or not the last one is ended.
@@ -76,10 +71,10 @@ fn lay_sheet(
     ensures { Lays (rows_of table) levels.now outs.now result }
 {
     let mut sheet = Sheet::blank(heap, table);
-    match sheet.lay(levels) {
-        Ok(()) => Ok(sheet),
-        Err(fault) => Err(lay_place(fault, levels.len(), outs)),
-    }
+    sheet
+        .lay(levels)
+        .map_err(|fault| lay_place(fault, levels.len(), outs))?;
+    Ok(sheet)
 }
 
 // Where a fault of laying points to: an output that reads too high to the name of its row, whose line comes after
@@ -89,23 +84,16 @@ fn lay_place(fault: Fault, atoms: usize, outs: &[usize]) -> Refused
     ensures { located result ≡ lay_place atoms outs.now (flaw fault) }
 {
     match fault {
-        Fault::ReadsTooHigh(row) => Refused {
-            fault,
-            line: atoms + row as usize + 1,
-            byte: byte_of(outs, row as usize),
-        },
-        _ => Refused {
-            fault,
-            line: 0,
-            byte: 0,
-        },
+        Fault::ReadsTooHigh(row) => {
+            let row = row as usize;
+            Refused {
+                fault,
+                line: atoms + row + 1,
+                byte: outs.get(row).copied().unwrap_or(0),
+            }
+        }
+        _ => Refused::from(fault),
     }
-}
-
-fn byte_of(outs: &[usize], row: usize) -> usize
-    ensures { result ≡ slice_index outs.now row }
-{
-    if row < outs.len() { outs[row] } else { 0 }
 }
 
 // Reads a line or a bar, and enters it.
@@ -118,13 +106,9 @@ fn enter_line(
     ensures { (d : Declared) (rules : List Rule) (n : ℕ) → declared names.now ≡ d.names → Holds d.rows d.levels rules sheet.old → Enters d rules n letter (left fields.entry) sheet.new result }
 {
     let line = read_line(letter, names, fields)?;
-    match sheet.enter(line.head, line.body.literals()) {
-        Ok(()) => Ok(()),
-        Err(fault) => Err(Refusal {
-            fault,
-            byte: enter_place(fault, &line.body),
-        }),
-    }
+    sheet
+        .enter(line.head, line.body.literals().as_slice())
+        .map_err(|fault| Refusal::at(fault, enter_place(fault, &line.body)))
 }
 
 // Where a fault of entering points to: one literal too many to the ninth, a literal above the head to itself, every

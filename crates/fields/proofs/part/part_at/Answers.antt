@@ -1,26 +1,19 @@
-use Rattle.std.proofs.Common.{◌≡◌, ◌-◌, length, take, drop, refl, ap, ◌∙◌, arith}
-use Rattle.std.proofs.lemmas.List.{length-take-le}
+use Rattle.std.proofs.Common.{◌≡◌, ◌-◌, length, take, drop, ◌∙◌, ap, sym, refl, arith, rules, tests}
+use Rattle.std.specs.List.{position}
+use Rattle.std.proofs.lemmas.Iterator.{YieldsList-from_slice}
+use Rattle.std.proofs.lemmas.Iterator.Search.{position_from_yields_List}
+use Rattle.std.proofs.lemmas.List.{take_rest, length-take-le, length-drop}
 use Rattle.fields.specs.Pieces.{run}
-use Rattle.fields.proofs.Parting.{run_more, run_stop, run_end, run_le}
+use Rattle.fields.proofs.Parting.{run_is_position, run_le}
 use Rattle.fields.proofs.part.part_at.Goals as goal
-use Rattle.fields.proofs.part.part_at.Goals.{then-loop-end-test+else-bytes-end, else-loop-end-test}
-
-pub loop-end-preserved : goal.loop-end-preserved
-loop-end-preserved c =
-    let m = run_more c.args.separator c.args.bytes.now c.loop-end.end c.loop-end-test.true c.if-bytes-end.true in
-    omega arith
+use lib.Dec.{eqb}
 
 pub returns : goal.returns
 returns c =
-    let s = c.args.separator in
-    let at = c.args.at in
-    let xs = c.args.bytes.now in
-    let z : run s (drop c.loop-end.end xs) ≡ 0 =
-    elim c.loop-end-test.branch [
-      | then-loop-end-test+else-bytes-end w ↦ run_stop s xs c.loop-end.end w.loop-end-test.true w.if-bytes-end.false
-      | else-loop-end-test w ↦ run_end s xs c.loop-end.end w.loop-end-test.false
-    ] in
-    let e : c.loop-end.end - at ≡ run s (drop at xs) = omega arith in
-    let part = ap (λ k. take k (drop at xs)) e in
-    let long = ap length part ∙ length-take-le (run s (drop at xs)) (drop at xs) (run_le s (drop at xs)) in
-    record { starts = refl; part = part; long = long; within = omega (arith, long) }
+    let xs = drop c.args.at c.args.bytes.now in
+    let rest : take (length c.args.bytes.now - c.args.at) xs ≡ xs = take_rest c.args.bytes.now c.args.at in
+    let found : c.position.result ≡ position (λ b. eqb b c.args.separator) (take (length c.args.bytes.now - c.args.at) xs) = position_from_yields_List (λ b. eqb b c.args.separator) _ _ c.position.result c.position.ensures.ran (YieldsList-from_slice _ c.iter.ensures.rest) (λ x b q k. search (rules, tests)) in
+    let len : c.unwrap_or-len.result ≡ run c.args.separator xs = c.unwrap_or-len.ensures ∙ rw (found, rest) (sym (run_is_position c.args.separator xs)) in
+    let part : take c.unwrap_or-len.result (take (length c.args.bytes.now - c.args.at) xs) ≡ take (run c.args.separator xs) xs = rw (len, rest) in
+    let long = ap length part ∙ length-take-le (run c.args.separator xs) xs (run_le c.args.separator xs) in
+    record { starts = refl; part = part; long = long; within = omega (arith, long, run_le c.args.separator xs, length-drop c.args.at c.args.bytes.now) }

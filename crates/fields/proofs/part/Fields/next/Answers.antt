@@ -1,7 +1,0 @@
-use Rattle.fields.proofs.Parting.{next_field}
-use Rattle.fields.proofs.part.Fields.next.Goals as goal
-
-pub returns : goal.returns
-returns c =
-    let p = c.part_at-field.ensures in
-    next_field c.args.self.now.at c.args.self.now.line.now c.part_at-field.result.bytes.now c.part_at-field.result.at c.if-self.false p.starts p.part p.long
