@@ -29,6 +29,7 @@ impl<'a> Lister<'a> {
             sheet: loaded.sheet,
             names: loaded.names,
             plan,
+            line: Vec::new(heap),
             stage: Stage::Plans,
         })
     }
