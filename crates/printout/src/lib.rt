@@ -5,7 +5,7 @@
 
 #![tactic(auto)]
 
-ghost use Rattle.std.specs.Prelude.{◌≡◌, true, is_ok, OnOk};
+ghost use Rattle.std.specs.Prelude.{◌≡◌, OnOk};
 ghost use Rattle.std.specs.Io.KnownBytes.{Appends};
 ghost use Rattle.faults.specs.Faults.{number_of};
 ghost use Rattle.printout.specs.Printed.{plan_line, end_line, tell_line, fault_line, texts};
@@ -18,7 +18,7 @@ use std::io::Write;
 
 // The line of a plan: the names of its atoms in the order of their numbers.
 pub fn plan_line(line: &mut Vec<u8>, names: &[&[u8]], plan: &[u8]) -> Result<(), AllocError>
-    ensures { is_ok result ≡ true → line.new.items ≡ plan_line (texts names.now) plan.now }
+    ensures { OnOk result (line.new.items ≡ plan_line (texts names.now) plan.now) }
 {
     line.clear();
     line.extend_from_slice(b"plan")?;
@@ -34,7 +34,7 @@ pub fn plan_line(line: &mut Vec<u8>, names: &[&[u8]], plan: &[u8]) -> Result<(),
 
 // The line under the plans, with their number.
 pub fn end_line(line: &mut Vec<u8>, count: u32) -> Result<(), AllocError>
-    ensures { is_ok result ≡ true → line.new.items ≡ end_line count }
+    ensures { OnOk result (line.new.items ≡ end_line count) }
 {
     line.clear();
     writeln!(line, "end,{count}").map_err(|_| AllocError)
@@ -42,7 +42,7 @@ pub fn end_line(line: &mut Vec<u8>, count: u32) -> Result<(), AllocError>
 
 // What is told of an atom: its name, how many plans hold it, whether some do, and whether all do.
 pub fn tell_line(line: &mut Vec<u8>, name: &[u8], told: Told) -> Result<(), AllocError>
-    ensures { is_ok result ≡ true → line.new.items ≡ tell_line name.now told.held told.brave told.cautious }
+    ensures { OnOk result (line.new.items ≡ tell_line name.now told.held told.brave told.cautious) }
 {
     let held = told.held;
     let some = u8::from(told.brave);

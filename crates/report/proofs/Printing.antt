@@ -25,7 +25,7 @@ use Rattle.report.specs.declared.lister.Lister.{Lister}
 use Rattle.report.specs.declared.lister.Stage.{Stage}
 use Rattle.report.specs.declared.lister.Stage.TheVariants.{Plans, Tells}
 use Rattle.report.specs.Printouts.{printout, all_plans, told_line, tell_lines}
-use Rattle.report.specs.Progress.{PrintedSoFar, StandsAt, IsNext, CutShort, lines_out, lines_under}
+use Rattle.report.specs.Progress.{PrintedSoFar, StandsAt, IsNext, CutShort, lines_out}
 use Rattle.report.proofs.Lines.{plan_at, end_at, tell_at, length_whole, length_cut_off}
 use Rattle.report.proofs.Steps.{Ends, steps_on, comes_to_end, is_cut_off, when_ended, tells}
 
@@ -77,11 +77,7 @@ module _ (d : Described) (k : ℕ) (x : Lister) (at : PrintedSoFar d k x) where
 
   -- the lines that were printed can be counted
   pub lines_are : lines_out x ≡ k
-  lines_are = counted x.stage at.stands
-    where
-      counted : (g : Stage) → StandsAt g (length d.levels) s.listing s.handed k → s.handed + lines_under g ≡ k
-      counted Plans h = omega (arith, h.1)
-      counted (Tells a) h = omega (arith, h.1)
+  lines_are = let h = at.stands in grind arith
 
   -- once atoms are told, a next
   module _ (a : ℕ) (telling : x.stage ≡ Tells a) where

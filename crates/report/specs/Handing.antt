@@ -13,5 +13,5 @@ use Rattle.report.specs.Progress.{PrintedSoFar, Prints}
 abbrev pub HandsOn : Lister → Result (Option (Bor (List ℕ))) Fault → Lister → Type 0
 HandsOn old r new = (d : Described) (k : ℕ) → PrintedSoFar d k old → Prints d k r new
 
-abbrev pub HandsOut : MutBor Lister → Result (Option (Bor (List ℕ))) Fault → Fml
-HandsOut x r = Rests (the_row (record { mir = named 0; lft = [] })) x (HandsOn x.now r)
+abbrev pub LendsLine : MutBor Lister → Result (Option (Bor (List ℕ))) Fault → Fml
+LendsLine x r = Rests (the_row (record { mir = named 0; lft = [] })) x (HandsOn x.now r)

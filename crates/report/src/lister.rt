@@ -30,11 +30,11 @@ pub struct Lister<'a> {
 
 impl<'a> Lister<'a> {
     ghost use Rattle.std.specs.Borrow.{sem};
-    ghost use Rattle.report.specs.Handing.{HandsOut};
+    ghost use Rattle.report.specs.Handing.{LendsLine};
 
     // The next line of the printout, or none once every atom is told.
     pub fn next_line(&mut self) -> Result<Option<&[u8]>, Fault>
-        ensures* { sem 𝓛 (HandsOut self.entry result) }
+        ensures* { sem 𝓛 (LendsLine self.entry result) }
     {
         match self.stage {
             Stage::Plans => self.next_plan()?,

@@ -15,8 +15,7 @@ pub fn open<'a>(heap: Global, text: &'a [u8]) -> Result<Lister<'a>, Refused>
     ensures { Opens text.now result }
 {
     let loaded = load(heap, text)?;
-    let lister = Lister::new(heap, loaded)?;
-    Ok(lister)
+    Ok(Lister::new(heap, loaded)?)
 }
 
 impl<'a> Lister<'a> {

@@ -10,7 +10,7 @@ no_name_left (n ∷ ns) (b ∷ bs) (inl h) = cc
 no_name_left (n ∷ ns) (b ∷ bs) (inr h) = cc
 
 pub returns : goal.returns
-returns c _ =
+returns c =
     let left = no_name_left _ _ (either_empty_from_Zip c.loop-name.name-iterator c.next.new.self c.next.result c.in-None.is c.next.ensures.steps) in
     let whole = rw (left, append-nil (vec_items c.loop-name.line)) at c.loop-name.invariant in
     c.in_ok-push-2.ensures.items ∙ ap (λ xs. xs ++ 10 ∷ []) whole

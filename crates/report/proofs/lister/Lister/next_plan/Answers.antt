@@ -1,4 +1,4 @@
-use Rattle.std.proofs.Common.{refl, ◌∙◌, ap₂}
+use Rattle.std.proofs.Common.{◌∙◌, ap₂}
 use Rattle.std.proofs.lemmas.Result.{err_from_is_err_and}
 use Rattle.sheet.specs.Calls.{tally_of}
 use Rattle.printout.specs.Printed.{plan_line}
@@ -16,10 +16,10 @@ pub returns-in_ok-plan_line-in-Plan : goal.returns-in_ok-plan_line-in-Plan
 returns-in_ok-plan_line-in-Plan c d k at plans =
     plan_here d k c.args.self.now at plans c.next.new.self c.as_mut_slice.result.now c.next.new.buffer
     c.as_mut_slice.ensures.value c.next.auto.buffer c.next.ensures.same c.in_ok-next.field-0 c.in_ok-next.ensures.stepped _ c.in-Plan.is
-    (c.in_ok-plan_line-in-Plan.ensures refl ∙ ap₂ plan_line c.as_slice.ensures c.as_slice-in-Plan.ensures.value)
+    (c.in_ok-plan_line-in-Plan.ensures ∙ ap₂ plan_line c.as_slice.ensures c.as_slice-in-Plan.ensures.value)
 
 pub returns-in_ok-end_line-in-NoMore : goal.returns-in_ok-end_line-in-NoMore
 returns-in_ok-end_line-in-NoMore c d k at plans =
     end_here d k c.args.self.now at plans c.next.new.self c.as_mut_slice.result.now c.next.new.buffer
     c.as_mut_slice.ensures.value c.next.auto.buffer c.next.ensures.same c.in_ok-next.field-0 c.in_ok-next.ensures.stepped c.in-NoMore.is
-    _ (tally_of c.in_ok-told-in-NoMore.told) (c.in_ok-end_line-in-NoMore.ensures refl) c.in_ok-told-in-NoMore.ensures
+    _ (tally_of c.in_ok-told-in-NoMore.told) c.in_ok-end_line-in-NoMore.ensures c.in_ok-told-in-NoMore.ensures
