@@ -11,8 +11,7 @@ use Rattle.grammar.specs.Texts.{Described, read_text}
 use Rattle.report.specs.declared.lister.Lister.{Lister}
 use Rattle.report.specs.declared.stop.Stop.TheVariants as stop
 use Rattle.report.specs.Printouts.{printout}
-use Rattle.report.specs.Progress.{PrintedSoFar, lines_out}
-use Rattle.report.specs.Handing.{HandsOn}
+use Rattle.report.specs.Progress.{PrintedSoFar, Prints, MovesOn, lines_out}
 use Rattle.report.specs.Lists.{ListsLines}
 use Rattle.report.proofs.Printing.{lines_are}
 
@@ -21,7 +20,7 @@ abbrev pub ListedSoFar : List ℕ → Option (List ℕ) → Option (List ℕ) �
 ListedSoFar text old out x =
     (d : Described) × (read_text text ≡ Ok d) × PrintedSoFar d (lines_out x) x × Appends old out (concat (take (lines_out x) (printout d)))
 
-module _ (text : List ℕ) (old out : Option (List ℕ)) (x y : Lister) (so_far : ListedSoFar text old out x) where
+module _ (text : List ℕ) (old out : Option (List ℕ)) (x : Lister) (so_far : ListedSoFar text old out x) where
   abbrev d : Described
   d = so_far.0
 
@@ -29,19 +28,18 @@ module _ (text : List ℕ) (old out : Option (List ℕ)) (x y : Lister) (so_far 
   k = lines_out x
 
   -- one more line
-  module _ (line : Bor (List ℕ)) (hands : HandsOn x (Ok (Some line)) y) where
+  module _ (y : Lister) (line : Bor (List ℕ)) (next : Prints d k (Ok (Some line))) (moved : MovesOn x (Ok (Some line)) y) where
     one_out : lines_out y ≡ k + 1
-    one_out = lines_are d (k + 1) y (hands d k so_far.2).2
+    one_out = lines_are d (k + 1) y (moved d k so_far.2)
 
     pub one_more : (new : Option (List ℕ)) → Appends out new line.now → ListedSoFar text old new y
     one_more new written =
-        let next = hands d k so_far.2 in
         let lines = printout d in
         let joined : concat (take (k + 1) lines) ≡ concat (take k lines) ++ line.now =
         ap concat (take_more lines k [] next.0) ∙ concat-append (take k lines) (get_or lines k [] ∷ []) ∙ ap (λ l. concat (take k lines) ++ l) (append-nil (get_or lines k []) ∙ sym next.1) in (
           d,
           so_far.1,
-          subst (λ i. PrintedSoFar d i y) (sym one_out) next.2,
+          subst (λ i. PrintedSoFar d i y) (sym one_out) (moved d k so_far.2),
           subst (λ i. Appends old new (concat (take i lines))) (sym one_out) (subst (Appends old new) (sym joined) (Appends-trans old out new _ line.now so_far.3 written)),
         )
 
@@ -53,14 +51,14 @@ module _ (text : List ℕ) (old out : Option (List ℕ)) (x y : Lister) (so_far 
     pub whole : Appends old out (concat (printout d))
     whole = subst (λ lines. Appends old out (concat lines)) all_out so_far.3
 
-  pub ends : HandsOn x (Ok None) y → ListsLines text old out (Ok tt)
-  ends hands = let end = hands d k so_far.2 in (d, so_far.1, end.1, whole (sym end.0))
+  pub ends : Prints d k (Ok None) → ListsLines text old out (Ok tt)
+  ends end = (d, so_far.1, end.1, whole (sym end.0))
 
   -- the printout is cut short
-  pub breaks_off : (f : Fault) → HandsOn x (Err f) y → ListsLines text old out (Err (stop.Refused (record { fault = f; line = 0; byte = 0 })))
-  breaks_off f hands =
+  pub breaks_off : (f : Fault) → Prints d k (Err f) → ListsLines text old out (Err (stop.Refused (record { fault = f; line = 0; byte = 0 })))
+  breaks_off f cut =
       let refused : Fault → Refused = λ g. record { fault = g; line = 0; byte = 0 } in
-      elim (hands d k so_far.2) [
+      elim cut [
         | inl h ↦ (printout d, inr (d, so_far.1, inl (ap refused h.0, refl, h.2)), whole (sym h.1))
         | inr m ↦ (take k (printout d), inr (d, so_far.1, inr (ap refused m, k, refl)), so_far.3)
       ]

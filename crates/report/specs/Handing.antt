@@ -4,14 +4,9 @@ use Rattle.std.specs.Borrow.{Fml, Bor, MutBor}
 use Rattle.std.specs.Io.BufRead.{Rests}
 use mir.Syntax.{named}
 use Rattle.faults.specs.declared.Fault.{Fault}
-use Rattle.grammar.specs.Texts.{Described}
 use Rattle.report.specs.declared.lister.Lister.{Lister}
 use Rattle.report.specs.contracts.lister.Lister.{the_row}
-use Rattle.report.specs.Progress.{PrintedSoFar, Prints}
-
--- it prints the next line of whatever it printed so far
-abbrev pub HandsOn : Lister → Result (Option (Bor (List ℕ))) Fault → Lister → Type 0
-HandsOn old r new = (d : Described) (k : ℕ) → PrintedSoFar d k old → Prints d k r new
+use Rattle.report.specs.Progress.{MovesOn}
 
 abbrev pub LendsLine : MutBor Lister → Result (Option (Bor (List ℕ))) Fault → Fml
-LendsLine x r = Rests (the_row (record { mir = named 0; lft = [] })) x (HandsOn x.now r)
+LendsLine x r = Rests (the_row (record { mir = named 0; lft = [] })) x (MovesOn x.now r)

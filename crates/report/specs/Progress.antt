@@ -1,5 +1,5 @@
 -- How far the printing has come, and what the next line is.
-use Rattle.std.specs.Prelude.{◌≡◌, ℕ, ◌+◌, ◌<◌, ◌≤◌, true, false, ◌⊎◌, List, [], length, Some, None, Ok, Err, vec_items, Option, Result, slice_index_or}
+use Rattle.std.specs.Prelude.{◌≡◌, ℕ, ◌+◌, ◌<◌, ◌≤◌, true, false, ◌⊎◌, ⊤, List, [], length, Some, None, Ok, Err, vec_items, Option, Result, slice_index_or}
 use Rattle.std.specs.Borrow.{Bor}
 use Rattle.faults.specs.declared.Fault.{Fault}
 use Rattle.faults.specs.declared.Fault.TheVariants.{Memory, ListingFull}
@@ -54,10 +54,16 @@ Writes d k x (Ok done) = IsNext d k (vec_items x.line) x
 Writes d k x (Err f) = CutShort d k f
 
 -- the next line is that of the printout; or the printout is at its end; or it was cut short
-abbrev pub Prints : Described → ℕ → Result (Option (Bor (List ℕ))) Fault → Lister → Type 0
-Prints d k (Ok (Some line)) x = IsNext d k line.now x
-Prints d k (Ok None) x = (k ≡ length (printout d)) × (length (all_plans d) < 1_000_000)
-Prints d k (Err f) x = CutShort d k f
+abbrev pub Prints : Described → ℕ → Result (Option (Bor (List ℕ))) Fault → Type 0
+Prints d k (Ok (Some line)) = (k < length (printout d)) × (line.now ≡ slice_index_or (printout d) k [])
+Prints d k (Ok None) = (k ≡ length (printout d)) × (length (all_plans d) < 1_000_000)
+Prints d k (Err f) = CutShort d k f
+
+-- and then one more line is printed
+abbrev pub MovesOn : Lister → Result (Option (Bor (List ℕ))) Fault → Lister → Type 0
+MovesOn old (Ok (Some line)) new = (d : Described) (k : ℕ) → PrintedSoFar d k old → PrintedSoFar d (k + 1) new
+MovesOn old (Ok None) new = ⊤
+MovesOn old (Err f) new = ⊤
 
 -- a text is refused as it is defined, or nothing of what it describes is printed yet
 abbrev pub Opens : List ℕ → Result Lister Refused → Type 0

@@ -2,7 +2,7 @@
 ghost use Rattle.std.specs.Prelude.{◌≡◌, ◌<◌, ℕ, length};
 ghost use Rattle.sheet.specs.Contents.{contents};
 ghost use Rattle.grammar.specs.Texts.{Described};
-ghost use Rattle.report.specs.Progress.{PrintedSoFar, Writes};
+ghost use Rattle.report.specs.Progress.{PrintedSoFar, Prints, Writes};
 
 use faults::Fault;
 use fields::names::Names;
@@ -34,7 +34,8 @@ impl<'a> Lister<'a> {
 
     // The next line of the printout, or none once every atom is told.
     pub fn next_line(&mut self) -> Result<Option<&[u8]>, Fault>
-        ensures* { sem 𝓛 (LendsLine self.entry result) }
+        ensures line { (d : Described) (k : ℕ) → PrintedSoFar d k self.old → Prints d k result }
+        ensures* moved { sem 𝓛 (LendsLine self.entry result) }
     {
         match self.stage {
             Stage::Plans => self.next_plan()?,
