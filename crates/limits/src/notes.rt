@@ -1,38 +1,34 @@
 // Numbers noted one after another, up to 32 of them.
-ghost use Rattle.std.specs.Prelude.{◌≡◌, ◌<◌, ◌≤◌, [], ◌∷◌, ◌++◌, take};
+ghost use Rattle.std.specs.Prelude.{◌≡◌, ◌<◌, ◌≤◌, [], ◌∷◌, ◌++◌};
+ghost use Rattle.arrayvec.specs.ArrayVec.{array_vec_len};
 
-#[derive(Clone, Copy)]
+use arrayvec::ArrayVec;
+
+#[derive(Drop)]
 pub struct Notes {
-    room: [u16; 32],
-    count: usize,
-    ghost few: { count ≤ 32 },
+    list: ArrayVec<u32, 32>,
 }
 
 impl Notes {
     pub fn new() -> Notes
-        ensures { take result.count result.room ≡ [] }
+        ensures { result.list.items ≡ [] }
     {
         Notes {
-            room: [0; 32],
-            count: 0,
+            list: ArrayVec::new(),
         }
     }
 
     // One more number; past 32 it is let go.
-    #[tactic(auto, using(std::proofs::lemmas::List::take_more_set))]
-    pub fn add(&mut self, number: u16)
-        ensures added { self.old.count < 32 → take self.new.count self.new.room ≡ take self.old.count self.old.room ++ number ∷ [] }
-        ensures full { 32 ≤ self.old.count → self.new ≡ self.old }
+    pub fn add(&mut self, number: u32)
+        ensures added { array_vec_len self.old.list < 32 → self.new.list.items ≡ self.old.list.items ++ number ∷ [] }
+        ensures full { 32 ≤ array_vec_len self.old.list → self.new ≡ self.old }
     {
-        if self.count < 32 {
-            self.room[self.count] = number;
-            self.count += 1;
-        }
+        let _ = self.list.try_push(number);
     }
 
-    pub fn numbers(&self) -> &[u16]
-        ensures { result.now ≡ take self.now.count self.now.room }
+    pub fn numbers(&self) -> &[u32]
+        ensures { result.now ≡ self.now.list.items }
     {
-        &self.room[..self.count]
+        self.list.as_slice()
     }
 }

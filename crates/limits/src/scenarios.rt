@@ -2,14 +2,14 @@
 use crate::notes::Notes;
 use faults::Fault;
 use modules::query::{Empty, Module};
-use modules::rows::PairTable;
+use modules::rows::{Pair, PairTable};
 use semantics::{Head, Literal, Side};
 use sheet::paper::{Sheet, Step};
 use std::alloc::Global;
 
-const ACCEPTED: u16 = 255;
+const ACCEPTED: u32 = 255;
 
-const NO_MORE: u16 = 254;
+const NO_MORE: u32 = 254;
 
 fn plain(atom: u16) -> Literal {
     Literal {
@@ -25,69 +25,46 @@ fn negated(atom: u16) -> Literal {
     }
 }
 
+fn row(one: u16, other: u16, to: u16) -> Pair {
+    Pair { one, other, to }
+}
+
 // The number of the fault, or that the call was accepted.
-fn number(answer: Result<(), Fault>) -> u16 {
+fn number<T: Drop>(answer: Result<T, Fault>) -> u32 {
     match answer {
-        Ok(()) => ACCEPTED,
-        Err(fault) => fault.number() as u16,
-    }
-}
-
-fn place(answer: Result<(), Fault>) -> u16 {
-    match answer {
-        Ok(()) => ACCEPTED,
-        Err(fault) => fault.place(),
-    }
-}
-
-fn lay<M: Module>(sheet: &mut Sheet<M>, levels: &[u8]) -> u16 {
-    number(sheet.lay(levels))
-}
-
-fn lay_place<M: Module>(sheet: &mut Sheet<M>, levels: &[u8]) -> u16 {
-    place(sheet.lay(levels))
-}
-
-fn enter<M: Module>(sheet: &mut Sheet<M>, head: Head, body: &[Literal]) -> u16 {
-    number(sheet.enter(head, body))
-}
-
-fn enter_place<M: Module>(sheet: &mut Sheet<M>, head: Head, body: &[Literal]) -> u16 {
-    place(sheet.enter(head, body))
-}
-
-fn row(table: &mut PairTable, one: u16, other: u16, to: u16) -> u16 {
-    number(table.push_row(one, other, to))
-}
-
-fn step<M: Module>(sheet: &mut Sheet<M>, plan: &mut [u8]) -> u16 {
-    match sheet.next(plan) {
-        Ok(Step::Plan) => ACCEPTED,
-        Ok(Step::NoMore) => NO_MORE,
-        Err(fault) => fault.number() as u16,
-    }
-}
-
-fn tell<M: Module>(sheet: &Sheet<M>, atom: u16) -> u16 {
-    match sheet.tell(atom) {
         Ok(_) => ACCEPTED,
-        Err(fault) => fault.number() as u16,
+        Err(fault) => u32::from(fault.number()),
+    }
+}
+
+// Its place, or the same.
+fn place<T: Drop>(answer: Result<T, Fault>) -> u32 {
+    match answer {
+        Ok(_) => ACCEPTED,
+        Err(fault) => u32::from(fault.place()),
+    }
+}
+
+fn step<M: Module>(sheet: &mut Sheet<M>, plan: &mut [u8]) -> u32 {
+    match sheet.next(plan) {
+        Ok(Step::NoMore) => NO_MORE,
+        answer => number(answer),
     }
 }
 
 // Notes held, all, brave and cautious.
 fn note_told<M: Module>(notes: &mut Notes, sheet: &Sheet<M>, atom: u16) {
     if let Ok(told) = sheet.tell(atom) {
-        notes.add((told.held & 0xffff) as u16);
-        notes.add((told.all & 0xffff) as u16);
-        notes.add(told.brave as u16);
-        notes.add(told.cautious as u16);
+        notes.add(told.held);
+        notes.add(told.all);
+        notes.add(u32::from(told.brave));
+        notes.add(u32::from(told.cautious));
     }
 }
 
 fn note_plan(notes: &mut Notes, plan: &[u8]) {
     for byte in plan {
-        notes.add(*byte as u16);
+        notes.add(u32::from(*byte));
     }
 }
 
@@ -95,21 +72,21 @@ pub fn levels(heap: Global) -> Notes {
     let mut notes = Notes::new();
     let mut levels = [15u8; 257];
     let mut sheet = Sheet::blank(heap, Empty);
-    notes.add(lay(&mut sheet, &[]));
-    notes.add(lay(&mut sheet, &levels));
-    notes.add(lay(&mut sheet, &levels[0..256]));
+    notes.add(number(sheet.lay(&[])));
+    notes.add(number(sheet.lay(&levels)));
+    notes.add(number(sheet.lay(&levels[0..256])));
     levels[200] = 16;
     levels[201] = 255;
-    notes.add(lay(&mut sheet, &levels[0..256]));
-    notes.add(lay_place(&mut sheet, &levels[0..256]));
+    notes.add(number(sheet.lay(&levels[0..256])));
+    notes.add(place(sheet.lay(&levels[0..256])));
     notes
 }
 
 // The last answer of so many entries.
-fn enter_many(sheet: &mut Sheet<Empty>, count: u16) -> u16 {
+fn enter_many(sheet: &mut Sheet<Empty>, count: u16) -> u32 {
     let mut answer = 0;
     for _ in 0..count {
-        answer = enter(sheet, Head::Atom(0), &[]);
+        answer = number(sheet.enter(Head::Atom(0), &[]));
     }
     answer
 }
@@ -117,13 +94,13 @@ fn enter_many(sheet: &mut Sheet<Empty>, count: u16) -> u16 {
 pub fn lines(heap: Global) -> Notes {
     let mut notes = Notes::new();
     let mut sheet = Sheet::blank(heap, Empty);
-    lay(&mut sheet, &[0]);
+    let _ = sheet.lay(&[0]);
     notes.add(enter_many(&mut sheet, 511));
-    notes.add(enter(&mut sheet, Head::Bar, &[negated(0)]));
-    notes.add(enter(&mut sheet, Head::Atom(0), &[]));
-    notes.add(enter(&mut sheet, Head::Atom(9), &[]));
-    lay(&mut sheet, &[0]);
-    notes.add(enter(&mut sheet, Head::Atom(0), &[]));
+    notes.add(number(sheet.enter(Head::Bar, &[negated(0)])));
+    notes.add(number(sheet.enter(Head::Atom(0), &[])));
+    notes.add(number(sheet.enter(Head::Atom(9), &[])));
+    let _ = sheet.lay(&[0]);
+    notes.add(number(sheet.enter(Head::Atom(0), &[])));
     notes
 }
 
@@ -131,10 +108,10 @@ pub fn bodies(heap: Global) -> Notes {
     let mut notes = Notes::new();
     let body = [plain(0); 9];
     let mut sheet = Sheet::blank(heap, Empty);
-    lay(&mut sheet, &[0]);
-    notes.add(enter(&mut sheet, Head::Atom(0), &body[0..8]));
-    notes.add(enter(&mut sheet, Head::Atom(0), &body));
-    notes.add(enter(&mut sheet, Head::Bar, &body));
+    let _ = sheet.lay(&[0]);
+    notes.add(number(sheet.enter(Head::Atom(0), &body[0..8])));
+    notes.add(number(sheet.enter(Head::Atom(0), &body)));
+    notes.add(number(sheet.enter(Head::Bar, &body)));
     notes
 }
 
@@ -143,22 +120,22 @@ pub fn literals(heap: Global) -> Notes {
     let stray = [plain(0), plain(2)];
     let high = [plain(0), negated(1), plain(2)];
     let mut sheet = Sheet::blank(heap, Empty);
-    lay(&mut sheet, &[0, 1]);
-    notes.add(enter(&mut sheet, Head::Atom(2), &stray));
-    notes.add(enter(&mut sheet, Head::Atom(0), &stray));
-    notes.add(enter_place(&mut sheet, Head::Atom(0), &stray));
-    notes.add(enter(&mut sheet, Head::Atom(0), &high));
-    notes.add(enter_place(&mut sheet, Head::Atom(0), &high));
-    notes.add(enter(&mut sheet, Head::Bar, &high[0..2]));
-    notes.add(enter(&mut sheet, Head::Atom(1), &high[0..2]));
+    let _ = sheet.lay(&[0, 1]);
+    notes.add(number(sheet.enter(Head::Atom(2), &stray)));
+    notes.add(number(sheet.enter(Head::Atom(0), &stray)));
+    notes.add(place(sheet.enter(Head::Atom(0), &stray)));
+    notes.add(number(sheet.enter(Head::Atom(0), &high)));
+    notes.add(place(sheet.enter(Head::Atom(0), &high)));
+    notes.add(number(sheet.enter(Head::Bar, &high[0..2])));
+    notes.add(number(sheet.enter(Head::Atom(1), &high[0..2])));
     notes
 }
 
 // The last answer of so many rows.
-fn push_many(table: &mut PairTable, count: u16) -> u16 {
+fn push_many(table: &mut PairTable, count: u16) -> u32 {
     let mut answer = 0;
     for _ in 0..count {
-        answer = row(table, 0, 0, 1);
+        answer = number(table.push_row(row(0, 0, 1)));
     }
     answer
 }
@@ -167,34 +144,34 @@ pub fn rows(heap: Global) -> Notes {
     let mut notes = Notes::new();
     let mut table = PairTable::new(heap);
     notes.add(push_many(&mut table, 64));
-    notes.add(row(&mut table, 0, 0, 2));
+    notes.add(number(table.push_row(row(0, 0, 2))));
     let mut sheet = Sheet::blank(heap, table);
-    notes.add(lay(&mut sheet, &[0, 1]));
+    notes.add(number(sheet.lay(&[0, 1])));
     notes
 }
 
 pub fn outputs(heap: Global) -> Notes {
     let mut notes = Notes::new();
     let mut table = PairTable::new(heap);
-    row(&mut table, 0, 0, 2);
-    row(&mut table, 1, 0, 2);
-    row(&mut table, 0, 9, 3);
+    let _ = table.push_row(row(0, 0, 2));
+    let _ = table.push_row(row(1, 0, 2));
+    let _ = table.push_row(row(0, 9, 3));
     let mut sheet = Sheet::blank(heap, table);
-    notes.add(lay(&mut sheet, &[0, 0, 1]));
-    notes.add(lay_place(&mut sheet, &[0, 0, 1]));
-    notes.add(lay(&mut sheet, &[0, 1, 1, 1]));
-    notes.add(lay_place(&mut sheet, &[0, 1, 1, 1]));
-    notes.add(lay(&mut sheet, &[0, 0, 1, 1]));
+    notes.add(number(sheet.lay(&[0, 0, 1])));
+    notes.add(place(sheet.lay(&[0, 0, 1])));
+    notes.add(number(sheet.lay(&[0, 1, 1, 1])));
+    notes.add(place(sheet.lay(&[0, 1, 1, 1])));
+    notes.add(number(sheet.lay(&[0, 0, 1, 1])));
     notes
 }
 
 pub fn never_laid(heap: Global) -> Notes {
     let mut notes = Notes::new();
     let mut sheet = Sheet::blank(heap, Empty);
-    notes.add(enter(&mut sheet, Head::Atom(9), &[]));
+    notes.add(number(sheet.enter(Head::Atom(9), &[])));
     notes.add(step(&mut sheet, &mut [7]));
-    notes.add(tell(&sheet, 9));
-    notes.add(lay(&mut sheet, &[16]));
+    notes.add(number(sheet.tell(9)));
+    notes.add(number(sheet.lay(&[16])));
     notes.add(step(&mut sheet, &mut []));
     notes
 }
@@ -202,9 +179,9 @@ pub fn never_laid(heap: Global) -> Notes {
 // Two atoms, of which each plan has one.
 fn even_pair(heap: Global) -> Sheet<Empty> {
     let mut sheet = Sheet::blank(heap, Empty);
-    lay(&mut sheet, &[0, 0]);
-    enter(&mut sheet, Head::Atom(0), &[negated(1)]);
-    enter(&mut sheet, Head::Atom(1), &[negated(0)]);
+    let _ = sheet.lay(&[0, 0]);
+    let _ = sheet.enter(Head::Atom(0), &[negated(1)]);
+    let _ = sheet.enter(Head::Atom(1), &[negated(0)]);
     sheet
 }
 
@@ -213,8 +190,8 @@ pub fn listing(heap: Global) -> Notes {
     let mut plan = [7u8; 2];
     let mut sheet = even_pair(heap);
     notes.add(step(&mut sheet, &mut [7]));
-    notes.add(tell(&sheet, 2));
-    notes.add(tell(&sheet, 0));
+    notes.add(number(sheet.tell(2)));
+    notes.add(number(sheet.tell(0)));
     step(&mut sheet, &mut plan);
     note_plan(&mut notes, &plan);
     step(&mut sheet, &mut plan);
@@ -230,13 +207,13 @@ pub fn entry(heap: Global) -> Notes {
     let mut notes = Notes::new();
     let mut plan = [7u8; 2];
     let mut sheet = Sheet::blank(heap, Empty);
-    lay(&mut sheet, &[0, 0]);
-    enter(&mut sheet, Head::Atom(1), &[negated(0)]);
+    let _ = sheet.lay(&[0, 0]);
+    let _ = sheet.enter(Head::Atom(1), &[negated(0)]);
     notes.add(step(&mut sheet, &mut plan));
     notes.add(step(&mut sheet, &mut plan));
     note_told(&mut notes, &sheet, 1);
-    notes.add(enter(&mut sheet, Head::Atom(0), &[]));
-    notes.add(tell(&sheet, 1));
+    notes.add(number(sheet.enter(Head::Atom(0), &[])));
+    notes.add(number(sheet.tell(1)));
     step(&mut sheet, &mut plan);
     note_plan(&mut notes, &plan);
     notes.add(step(&mut sheet, &mut plan));

@@ -1,5 +1,5 @@
 -- The lines of the printout.
-use Rattle.std.specs.Prelude.{ℕ, Bool, cond, List, [], ◌∷◌, ◌++◌, map, codes, decimal, ◌==◌}
+use Rattle.std.specs.Prelude.{ℕ, Bool, if◌then◌else◌, List, [], ◌∷◌, ◌++◌, map, codes, decimal, ◌==◌}
 use Rattle.std.specs.Borrow.{Bor}
 
 -- the bytes of each of a list of parts of a text
@@ -8,7 +8,7 @@ texts = map (λ part. part.now)
 
 -- a name after a comma, if the byte of its atom is 1
 abbrev pub present_name : List ℕ → ℕ → List ℕ
-present_name name b = cond (b == 1) (44 ∷ name) []
+present_name name b = if b == 1 then 44 ∷ name else []
 
 -- the names of all atoms that are present
 abbrev pub present_names : List (List ℕ) → List ℕ → List ℕ
@@ -26,7 +26,7 @@ end_line count = codes "end," ++ (decimal count ++ 10 ∷ [])
 
 -- 1 for yes and 0 for no
 abbrev pub yes_no : Bool → ℕ
-yes_no b = cond b 1 0
+yes_no b = if b then 1 else 0
 
 -- tell, the name of an atom, how many plans hold it, whether some plan does, and whether all do
 abbrev pub tell_line : List ℕ → ℕ → Bool → Bool → List ℕ

@@ -1,4 +1,4 @@
 pub mod Lines
 pub mod Steps
 pub mod Printing
-pub mod Opening
+pub mod Listing

@@ -1,7 +1,7 @@
 -- Where the lines of a printout stand: those of the plans, then the last of them, and then those of the atoms.
-use Rattle.std.proofs.Common.{◌≡◌, ℕ, ◌+◌, ◌-◌, ◌<◌, ◌≤◌, true, false, cond, ltb, List, [], ◌∷◌, ◌++◌, map, length, get_or, take, refl, ap, ◌∙◌, arith, length-append, length-take}
+use Rattle.std.proofs.Common.{◌≡◌, ℕ, ◌+◌, ◌-◌, ◌<◌, ◌≤◌, if◌then◌else◌, ltb, List, [], ◌∷◌, ◌++◌, map, length, get_or, take, refl, ap, ◌∙◌, inl, inr, arith, length-append, length-take}
 use lib.ListN.{length-map}
-use Rattle.std.proofs.lemmas.Bool.{lt-ltb, le-ltb}
+use Rattle.std.proofs.lemmas.Bool.{lt-ltb, le-ltb, cases_lt}
 use Rattle.std.proofs.lemmas.List.{get_or_append_left, get_or-append_right, get_or-take, get_or-map}
 
 -- a line for each plan, an end and a line for each atom; or a line for each of the first million plans
@@ -13,7 +13,7 @@ module _ (f : List ℕ → List ℕ) (end : List ℕ) (tells plans : List (List 
   cut_off = map f (take 1_000_000 plans)
 
   abbrev pub all_lines : List (List ℕ)
-  all_lines = cond (ltb (length plans) 1_000_000) whole cut_off
+  all_lines = if ltb (length plans) 1_000_000 then whole else cut_off
 
   all_lines_whole : length plans < 1_000_000 → all_lines ≡ whole
   all_lines_whole few = rw lt-ltb
@@ -36,8 +36,10 @@ module _ (f : List ℕ → List ℕ) (end : List ℕ) (tells plans : List (List 
   -- the line of a plan
   pub plan_at : (k : ℕ) → k < length plans → k < 1_000_000 → (k < length all_lines) × (get_or all_lines k [] ≡ f (get_or plans k []))
   plan_at k l few =
-      elim (ltb (length plans) 1_000_000) as (λ b. (k < length (cond b whole cut_off)) × (get_or (cond b whole cut_off) k [] ≡ f (get_or plans k [])))
-      [ true ↦ plan_in_whole k l | false ↦ plan_in_cut_off k l few ]
+      elim (cases_lt (length plans) 1_000_000) [
+        | inl all ↦ rw (all_lines_whole all) (plan_in_whole k l)
+        | inr many ↦ rw (all_lines_cut_off many) (plan_in_cut_off k l few)
+      ]
 
   module _ (few : length plans < 1_000_000) where
     -- how many lines there are

@@ -1,2 +1,4 @@
+pub mod Handing
+pub mod Lists
 pub mod Printouts
 pub mod Progress

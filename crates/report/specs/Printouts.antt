@@ -1,5 +1,5 @@
 -- What is printed for the sheet that a text describes.
-use Rattle.std.specs.Prelude.{ℕ, cond, List, [], ◌∷◌, ◌++◌, map, length, take, nat_lt, slice_index_or}
+use Rattle.std.specs.Prelude.{ℕ, if◌then◌else◌, List, [], ◌∷◌, ◌++◌, map, length, take, nat_lt, slice_index_or}
 use Rattle.std.specs.List.{range_with_len}
 use Rattle.semantics.specs.Modules.{pair_table}
 use Rattle.semantics.specs.Plans.{Program, plans, over}
@@ -26,6 +26,6 @@ tell_lines d = map (λ a. told_line (slice_index_or d.names a []) (tally (all_pl
 -- where there are a million plans or more, a line for each of the first million, and no more
 abbrev pub printout : Described → List (List ℕ)
 printout d =
-    cond (nat_lt (length (all_plans d)) 1_000_000)
-    (map (plan_line d.names) (all_plans d) ++ end_line (length (all_plans d)) ∷ tell_lines d)
-    (map (plan_line d.names) (take 1_000_000 (all_plans d)))
+    if nat_lt (length (all_plans d)) 1_000_000
+    then map (plan_line d.names) (all_plans d) ++ end_line (length (all_plans d)) ∷ tell_lines d
+    else map (plan_line d.names) (take 1_000_000 (all_plans d))

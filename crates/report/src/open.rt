@@ -15,8 +15,7 @@ pub fn open<'a>(heap: Global, text: &'a [u8]) -> Result<Lister<'a>, Refused>
     ensures { Opens text.now result }
 {
     let loaded = load(heap, text)?;
-    let lister = Lister::new(heap, loaded)?;
-    Ok(lister)
+    Ok(Lister::new(heap, loaded)?)
 }
 
 impl<'a> Lister<'a> {
@@ -29,6 +28,7 @@ impl<'a> Lister<'a> {
             sheet: loaded.sheet,
             names: loaded.names,
             plan,
+            line: Vec::new(heap),
             stage: Stage::Plans,
         })
     }

@@ -3,40 +3,25 @@
 #![tactic(auto)]
 
 use report::list::list;
-use std::io;
+use report::stop::Stop;
 use std::io::{BufWriter, Read, Write};
 use std::process::ExitCode;
 
 // One byte more than a text may have, so that one too long is told from one that is not.
 const MOST: u64 = 65_537;
 
-#[derive(Debug, Drop)]
-pub enum Stop {
-    // standard input could not be read, or standard output was closed
-    Outside(io::Error),
-    // the fault is printed
-    Refused,
-}
-
-impl From<io::Error> for Stop {
-    fn from(error: io::Error) -> Stop {
-        Stop::Outside(error)
-    }
-}
-
 fn read_text(rt: &HostRuntime) -> Result<Vec<u8>, Stop> {
     let mut text = Vec::new(rt.alloc());
-    let mut input = rt.stdin().take(MOST);
-    input.read_to_end(&mut text)?;
+    rt.stdin().take(MOST).read_to_end(&mut text)?;
     Ok(text)
 }
 
 fn print_list(rt: &HostRuntime) -> Result<(), Stop> {
     let text = read_text(rt)?;
     let mut out = BufWriter::new(rt.alloc(), rt.stdout())?;
-    let whole = list(rt.alloc(), &text, &mut out)?;
+    let listed = list(rt.alloc(), &text, &mut out);
     out.flush()?;
-    if whole { Ok(()) } else { Err(Stop::Refused) }
+    listed
 }
 
 // Quiet on standard error: a refusal was printed, and a failed read or write, or want of memory, shows by the status.

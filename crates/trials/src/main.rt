@@ -4,14 +4,18 @@
 #![tactic(auto)]
 
 use report::list::list;
+use report::stop::Stop;
 use std::io::{BufWriter, Write};
 use std::{env, fs};
 
 fn try_text(rt: &HostRuntime, name: &str, out: &mut impl Write) -> anyhow::Result<()> {
     let text = fs::read(rt, name)?;
     writeln!(out, "# {name}")?;
-    list(rt.alloc(), &text, out)?;
-    Ok(())
+    match list(rt.alloc(), &text, out) {
+        Err(Stop::Outside(error)) => Err(error.into()),
+        // the fault of a refused text is printed
+        Err(Stop::Refused(_)) | Ok(()) => Ok(()),
+    }
 }
 
 fn main(rt: HostRuntime) -> anyhow::Result<()> {
