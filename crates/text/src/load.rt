@@ -1,6 +1,6 @@
 //! Loading a text. The sheet is laid after the declarations, at the first line or bar or at the text's end, and
 //! then takes the lines and bars one by one. A fault of the sheet keeps its number; what is added is its place.
-ghost use Rattle.std.specs.Prelude.{◌≡◌, ℕ, ◌^◌, ◌<◌, List, length, slice_index};
+ghost use Rattle.std.specs.Prelude.{◌≡◌, ℕ, ◌^◌, ◌<◌, List, length};
 ghost use Rattle.modules.specs.Tables.{rows_of};
 ghost use Rattle.sheet.specs.Faults.{flaw};
 ghost use Rattle.semantics.specs.Rules.{Rule};
