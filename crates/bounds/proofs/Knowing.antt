@@ -1,5 +1,5 @@
 -- A position is settled where it reads none of the unknown atoms.
-use Rattle.std.proofs.Common.{◌≡◌, ℕ, zero, suc, ◌+◌, Bool, true, false, cond, not, ◌&&◌, ◌||◌, List, [], ◌∷◌, ◌++◌, length, length-append, ◌≤◌, arith, sym, refl, ap, ◌∙◌, add-one}
+use Rattle.std.proofs.Common.{◌≡◌, ℕ, zero, suc, Bool, true, false, cond, not, ◌&&◌, ◌||◌, List, [], ◌∷◌, ◌++◌, sym, refl, ap, ◌∙◌}
 use mathlib.Core.Path.{fun_ext}
 use Rattle.std.proofs.lemmas.List.{append-nil}
 use Rattle.std.specs.List.{list_all}
@@ -34,20 +34,3 @@ module _ (m : Meaning) (q : Pair) (n : ℕ) where
 
   pub possibly_found : tabled (some_output m (λ k. not (reads_none m (unknown_atoms q n) k) || m.given k q.sure)) 0 n ≡ tabled (possibly (bank_alone m n) q) 0 n
   possibly_found = ap (λ passes. tabled (some_output m passes) 0 n) (fun_ext (λ k. ap (λ b. not b || m.given k q.sure) (settled_where m q k n)))
-
--- the list of unknown atoms, one atom on
-module _ (q : Pair) (i : ℕ) where
-  pub unknown_less : known q i ≡ true → unknown_atoms q (i + 1) ≡ unknown_atoms q i
-  unknown_less e = rw add-one (ap (λ b. unknown_atoms q i ++ cond b [] (i ∷ [])) e ∙ append-nil (unknown_atoms q i))
-
-  pub unknown_more : known q i ≡ false → unknown_atoms q (i + 1) ≡ unknown_atoms q i ++ i ∷ []
-  unknown_more e = rw add-one (ap (λ b. unknown_atoms q i ++ cond b [] (i ∷ [])) e)
-
-  one_at_most : (b : Bool) → length (cond b [] (i ∷ [])) ≤ 1
-  one_at_most true = omega arith
-  one_at_most false = omega arith
-
--- there are no more of them than atoms
-pub unknown_few : (q : Pair) (n : ℕ) → length (unknown_atoms q n) ≤ n
-unknown_few q zero = omega arith
-unknown_few q (suc n) = omega (arith, unknown_few q n, one_at_most q n (known q n), length-append (unknown_atoms q n) (cond (known q n) [] (n ∷ [])))

@@ -1,5 +1,5 @@
 -- Sets written from a test: when two are one, and what one more atom makes of one.
-use Rattle.std.proofs.Common.{◌≡◌, ℕ, zero, suc, ◌<◌, Bool, false, ◌||◌, T, eqb, [], ◌∷◌, ◌++◌, ◌+◌, List, length, set, sym, refl, ap, ◌∙◌, inl, inr, arith, add-one, eqb→eq}
+use Rattle.std.proofs.Common.{◌≡◌, ℕ, zero, suc, ◌<◌, Bool, false, ◌||◌, T, eqb, ◌∷◌, List, length, set, replicate, sym, refl, ap, ◌∙◌, inl, inr, arith, eqb→eq}
 use Rattle.std.proofs.lemmas.Bool.{eq-eqb}
 use Rattle.semantics.specs.Sets.{has, tabled}
 use Rattle.semantics.proofs.Booleans.{holds, same_tests, or_left, or_right, or_cases}
@@ -9,15 +9,9 @@ use Rattle.semantics.proofs.Bytes.{bit, has-tabled, tabled_canonical, tabled_has
 pub tabled_alike : (f g : ℕ → Bool) (n : ℕ) → ((a : ℕ) → a < n → f a ≡ g a) → tabled f 0 n ≡ tabled g 0 n
 tabled_alike f g n alike = same_canonical (tabled_canonical f n) (tabled_canonical g n) (λ a l. has-tabled f n a l ∙ alike a l ∙ sym (has-tabled g n a l))
 
--- one atom more
-tabled_last : (f : ℕ → Bool) (i n : ℕ) → tabled f i (suc n) ≡ tabled f i n ++ bit (f (i + n)) ∷ []
-tabled_last f i zero = let e : i ≡ i + 0 = omega arith in ap (λ k. bit (f k) ∷ []) e
-tabled_last f i (suc n) = let e : suc i + n ≡ i + suc n = omega arith in ap (λ s. bit (f i) ∷ s) (tabled_last f (suc i) n ∙ ap (λ k. tabled f (suc i) n ++ bit (f k) ∷ []) e)
-
-pub tabled_push : (f : ℕ → Bool) (n v : ℕ) (s t : List ℕ) → s ≡ tabled f 0 n → v ≡ bit (f n) → t ≡ s ++ v ∷ [] → t ≡ tabled f 0 (n + 1)
-tabled_push f n v s t old byte e =
-    let here : 0 + n ≡ n = omega arith in
-    rw add-one (e ∙ ap (λ r. r ++ v ∷ []) old ∙ ap (λ b. tabled f 0 n ++ b ∷ []) (byte ∙ sym (ap (λ k. bit (f k)) here)) ∙ sym (tabled_last f 0 n))
+pub tabled_none : (i n : ℕ) → replicate n 0 ≡ tabled (λ a. false) i n
+tabled_none i zero = refl
+tabled_none i (suc n) = ap (λ s. 0 ∷ s) (tabled_none (suc i) n)
 
 pub tabled_size : (f : ℕ → Bool) (n : ℕ) (s : List ℕ) → s ≡ tabled f 0 n → length s ≡ n
 tabled_size f n s e = ap length e ∙ (tabled_canonical f n).size

@@ -1,13 +1,12 @@
 -- The two sets of the bounds.
-use Rattle.std.specs.Prelude.{ℕ}
+use Rattle.std.specs.Prelude.{ℕ, length}
 use Rattle.semantics.specs.Alternating.{Pair}
 use Rattle.bounds.specs.declared.pair.Bounds.{Bounds}
-use Rattle.arrayvec.specs.ArrayVec.{array_vec_len}
 
 -- as a pair of sets
 abbrev pub pair_of : Bounds → Pair
-pair_of b = record { sure = b.sure.items; possible = b.possible.items }
+pair_of b = record { sure = b.sure.now; possible = b.possible.now }
 
 -- how many atoms they are over
 abbrev pub atoms_of : Bounds → ℕ
-atoms_of b = array_vec_len b.sure
+atoms_of b = length b.sure.now

@@ -4,22 +4,17 @@ ghost use Rattle.std.specs.Prelude.{◌≡◌, ◌≤◌, not, ◌&&◌, ◌||�
 ghost use Rattle.semantics.specs.Sets.{has, tabled};
 ghost use Rattle.semantics.specs.Alternating.{marks_in, is_present, is_absent};
 
-use crate::pair::Bounds;
-use arrayvec::ArrayVec;
-
 // Begins with the atoms held present as sure and those not held absent as possible.
-pub(crate) fn widen(marks: &[u8]) -> Bounds
-    requires { length marks.now ≤ 256 }
-    ensures sure { result.sure.items ≡ tabled (λ a. is_present (marks_in marks.now a)) 0 (length marks.now) }
-    ensures possible { result.possible.items ≡ tabled (λ a. not (is_absent (marks_in marks.now a))) 0 (length marks.now) }
+pub(crate) fn widen(marks: &[u8], sure: &mut [u8], possible: &mut [u8])
+    requires sure { length sure.old ≡ length marks.now }
+    requires possible { length possible.old ≡ length marks.now }
+    ensures sure { sure.new ≡ tabled (λ a. is_present (marks_in marks.now a)) 0 (length marks.now) }
+    ensures possible { possible.new ≡ tabled (λ a. not (is_absent (marks_in marks.now a))) 0 (length marks.now) }
 {
-    let mut sure = ArrayVec::new();
-    let mut possible = ArrayVec::new();
-    for mark in marks {
-        sure.push((*mark == 1) as u8);
-        possible.push((*mark != 2) as u8);
+    for (atom, mark) in marks.iter().enumerate() {
+        sure[atom] = (*mark == 1) as u8;
+        possible[atom] = (*mark != 2) as u8;
     }
-    Bounds { sure, possible }
 }
 
 // Puts the atoms held present into a set.

@@ -18,20 +18,26 @@ use crate::round::{RoundEnd, round};
 use modules::query::Module;
 
 impl<'a, M: Module> Program<'a, M> {
-    // The bounds at which the rounds under the marks end.
-    pub fn narrow(&self, marks: &[u8]) -> Bounds
-        requires { length marks.now ≡ atoms_in self.now.rules.now }
-        ensures size { atoms_of result ≡ atoms_in self.now.rules.now }
-        ensures narrowed { NarrowedTo (program_of M.Module.meaning self.now) (marks_in marks.now) (pair_of result) }
+    // Leaves the bounds at which the rounds under the marks end. What they were before is not used.
+    pub fn narrow(&self, marks: &[u8], bounds: &mut Bounds)
+        requires marks { length marks.now ≡ atoms_in self.now.rules.now }
+        requires bounds { atoms_of bounds.old ≡ atoms_in self.now.rules.now }
+        ensures size { atoms_of bounds.new ≡ atoms_in self.now.rules.now }
+        ensures narrowed { NarrowedTo (program_of M.Module.meaning self.now) (marks_in marks.now) (pair_of bounds.new) }
     {
-        let mut bounds = widen(marks);
+        let mut sure = [0u8; 256];
+        let mut possible = [0u8; 256];
+        let mut given = Bounds {
+            sure: &mut sure[0..marks.len()],
+            possible: &mut possible[0..marks.len()],
+        };
+        widen(marks, bounds.sure, bounds.possible);
         for _turn in 0..2 * marks.len() + 1 {
-            let given = query_between(self.bank, &bounds);
-            match round(self.rules, marks, &mut bounds, given) {
-                RoundEnd::Contradiction | RoundEnd::Settled => return bounds,
+            query_between(self.bank, bounds, &mut given);
+            match round(self.rules, marks, bounds, &mut given) {
+                RoundEnd::Contradiction | RoundEnd::Settled => return,
                 RoundEnd::GoingOn => {}
             }
         }
-        bounds
     }
 }

@@ -1,34 +1,41 @@
 // Bounds on plans: the atoms that are sure to be in each plan, and those that are possible in one.
-ghost use Rattle.std.specs.Prelude.{◌≡◌};
-ghost use Rattle.arrayvec.specs.ArrayVec.{array_vec_len};
+ghost use Rattle.std.specs.Prelude.{◌≡◌, ◌≤◌, length};
 
-use crate::sets::{Set, first_beyond};
+use crate::sets::first_beyond;
 
-// Two sets of as many atoms.
+// Two sets of as many atoms, in bytes that the caller lends.
 #[derive(Drop)]
-pub struct Bounds {
-    pub sure: Set,
-    pub possible: Set,
-    ghost alike: { array_vec_len possible ≡ array_vec_len sure },
+pub struct Bounds<'a> {
+    pub sure: &'a mut [u8],
+    pub possible: &'a mut [u8],
+    ghost few: { length sure.now ≤ 256 },
+    ghost alike: { length possible.now ≡ length sure.now },
 }
 
-impl Bounds {
+impl<'a> Bounds<'a> {
     ghost use Rattle.semantics.specs.Sets.{some_below};
     ghost use Rattle.semantics.specs.Alternating.{clashes};
     ghost use Rattle.bounds.specs.Beyond.{FirstBeyond};
     ghost use Rattle.bounds.specs.Pairs.{pair_of, atoms_of};
 
+    // The sure atoms.
+    pub fn sure(&self) -> &[u8]
+        ensures { result.now ≡ self.now.sure.now }
+    {
+        self.sure
+    }
+
     // Whether some atom is sure and not possible.
     pub fn is_contradictory(&self) -> bool
         ensures { result ≡ some_below (atoms_of self.now) (clashes (pair_of self.now)) }
     {
-        first_beyond(&self.sure, &self.possible).is_some()
+        first_beyond(self.sure, self.possible).is_some()
     }
 
     // The lowest open atom, possible and not sure, if there is one.
     pub fn first_open(&self) -> Option<u16>
-        ensures { FirstBeyond self.now.possible.items self.now.sure.items result }
+        ensures { FirstBeyond self.now.possible.now self.now.sure.now result }
     {
-        first_beyond(&self.possible, &self.sure)
+        first_beyond(self.possible, self.sure)
     }
 }

@@ -19,16 +19,21 @@ impl<'a, M: Module> Program<'a, M> {
         requires { length set.now ≡ atoms_in self.now.rules.now }
         ensures { result ≡ is_plan (program_of M.Module.meaning self.now) set.now }
     {
-        !self.rules.bar_holds(set, set) && self.is_stable(set)
+        if self.rules.bar_holds(set, set) {
+            return false;
+        }
+        let mut room = [0u8; 256];
+        self.is_stable(set, &mut room[0..set.len()])
     }
 
-    // Whether a set is the least model of its reduct with what the bank gives at it.
-    fn is_stable(&self, set: &[u8]) -> bool
-        requires { length set.now ≡ atoms_in self.now.rules.now }
+    // Whether a set is the least model of its reduct with what the bank gives at it. The model is written into `model`.
+    fn is_stable(&self, set: &[u8], model: &mut [u8]) -> bool
+        requires set { length set.now ≡ atoms_in self.now.rules.now }
+        requires model { length model.old ≡ atoms_in self.now.rules.now }
         ensures { result ≡ same set.now (least (rules_in self.now.rules.now) set.now (gives (M.Module.meaning self.now.bank.now) set.now) (atoms_in self.now.rules.now)) }
     {
-        let mut model = query_at(self.bank, set);
-        self.rules.derive(set, model.as_mut_slice());
-        is_same(set, &model)
+        query_at(self.bank, set, model);
+        self.rules.derive(set, model);
+        is_same(set, model)
     }
 }

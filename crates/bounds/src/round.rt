@@ -8,12 +8,12 @@ ghost use Rattle.semantics.specs.Sets.{Canonical};
 ghost use Rattle.semantics.specs.Alternating.{marks_in};
 ghost use Rattle.derivation.specs.Rulesets.{rules_in, atoms_in};
 ghost use Rattle.bounds.specs.Pairs.{pair_of, atoms_of};
-ghost use Rattle.bounds.specs.Rounds.{pair, rounded};
+ghost use Rattle.bounds.specs.Rounds.{rounded};
 ghost use Rattle.bounds.specs.Ends.{ending};
 
 use crate::marks::{bar, hold};
 use crate::pair::Bounds;
-use crate::sets::is_same;
+use crate::sets::take_over;
 use derivation::ruleset::Ruleset;
 
 // A round ends in a contradiction, an atom that is sure and not possible; or it has changed nothing;
@@ -25,28 +25,24 @@ pub(crate) enum RoundEnd {
     GoingOn,
 }
 
-// Narrows the bounds by one round, from what the bank gives between them.
-pub(crate) fn round(rules: &Ruleset, marks: &[u8], bounds: &mut Bounds, given: Bounds) -> RoundEnd
+// Narrows the bounds by one round. What the bank gives between them is used up.
+pub(crate) fn round(
+    rules: &Ruleset,
+    marks: &[u8],
+    bounds: &mut Bounds,
+    given: &mut Bounds,
+) -> RoundEnd
     requires marks { length marks.now ≡ atoms_in rules.now }
     requires bounds { atoms_of bounds.old ≡ atoms_in rules.now }
-    requires given { Canonical (atoms_in rules.now) given.possible.items }
-    ensures narrowed { pair_of bounds.new ≡ rounded (rules_in rules.now) (atoms_in rules.now) (marks_in marks.now) (pair_of given) (pair_of bounds.old) }
+    requires given { atoms_of given.old ≡ atoms_in rules.now }
+    requires canonical { Canonical (atoms_in rules.now) given.old.possible.now }
+    ensures narrowed { pair_of bounds.new ≡ rounded (rules_in rules.now) (atoms_in rules.now) (marks_in marks.now) (pair_of given.old) (pair_of bounds.old) }
+    ensures room { atoms_of given.new ≡ atoms_in rules.now }
     ensures end { result ≡ ending (atoms_in rules.now) (pair_of bounds.old) (pair_of bounds.new) }
 {
-    let Bounds {
-        mut sure,
-        mut possible,
-    } = given;
-    derive_pair(
-        rules,
-        marks,
-        bounds,
-        sure.as_mut_slice(),
-        possible.as_mut_slice(),
-    );
-    let same_sure = is_same(&bounds.sure, &sure);
-    let same_possible = is_same(&bounds.possible, &possible);
-    *bounds = Bounds { sure, possible };
+    derive_pair(rules, marks, bounds, given);
+    let same_sure = take_over(bounds.sure, given.sure);
+    let same_possible = take_over(bounds.possible, given.possible);
     if bounds.is_contradictory() {
         RoundEnd::Contradiction
     } else if same_sure && same_possible {
@@ -57,15 +53,15 @@ pub(crate) fn round(rules: &Ruleset, marks: &[u8], bounds: &mut Bounds, given: B
 }
 
 // Derives the new sets in the place of what the bank gives.
-fn derive_pair(rules: &Ruleset, marks: &[u8], bounds: &Bounds, sure: &mut [u8], possible: &mut [u8])
+fn derive_pair(rules: &Ruleset, marks: &[u8], bounds: &Bounds, given: &mut Bounds)
     requires marks { length marks.now ≡ atoms_in rules.now }
     requires bounds { atoms_of bounds.now ≡ atoms_in rules.now }
-    requires sure { length sure.old ≡ atoms_in rules.now }
-    requires possible { Canonical (atoms_in rules.now) possible.old }
-    ensures { pair sure.new possible.new ≡ rounded (rules_in rules.now) (atoms_in rules.now) (marks_in marks.now) (pair sure.old possible.old) (pair_of bounds.now) }
+    requires given { atoms_of given.old ≡ atoms_in rules.now }
+    requires canonical { Canonical (atoms_in rules.now) given.old.possible.now }
+    ensures { pair_of given.new ≡ rounded (rules_in rules.now) (atoms_in rules.now) (marks_in marks.now) (pair_of given.old) (pair_of bounds.now) }
 {
-    hold(marks, sure);
-    rules.derive(&bounds.possible, sure);
-    rules.derive(&bounds.sure, possible);
-    bar(marks, possible);
+    hold(marks, given.sure);
+    rules.derive(bounds.possible, given.sure);
+    rules.derive(bounds.sure, given.possible);
+    bar(marks, given.possible);
 }

@@ -3,30 +3,34 @@ ghost use Rattle.std.specs.Prelude.{◌≡◌, ◌≤◌, false, length, slice_s
 ghost use Rattle.semantics.specs.Sets.{same, tabled};
 ghost use Rattle.bounds.specs.Beyond.{FirstBeyond};
 
-use arrayvec::ArrayVec;
-
-// A set of at most 256 atoms.
-pub type Set = ArrayVec<u8, 256>;
-
-// No atom, of so many.
-pub(crate) fn none(atoms: usize) -> Set
-    requires { atoms ≤ 256 }
-    ensures { result.items ≡ tabled (λ _. false) 0 atoms }
+// Takes every atom out.
+pub(crate) fn clear(set: &mut [u8])
+    ensures { set.new ≡ tabled (λ _. false) 0 (length set.old) }
 {
-    let mut set = ArrayVec::new();
-    for _atom in 0..atoms {
-        set.push(0);
-    }
-    set
+    set.fill(0);
 }
 
 // Puts an atom in, or nothing where the set has no byte for it.
-pub(crate) fn put(set: &mut Set, atom: u16)
-    ensures { set.new.items ≡ slice_set set.old.items atom 1 }
+pub(crate) fn put(set: &mut [u8], atom: u16)
+    ensures { set.new ≡ slice_set set.old atom 1 }
 {
-    if let Some(byte) = set.get_mut(atom as usize) {
-        *byte = 1;
+    let atom = atom as usize;
+    if atom < set.len() {
+        set[atom] = 1;
     }
+}
+
+// Takes over the bytes of another set, and says whether they were the same before.
+pub(crate) fn take_over(set: &mut [u8], other: &[u8]) -> bool
+    requires { length set.old ≡ length other.now }
+    ensures set { set.new ≡ other.now }
+    ensures test { result ≡ same set.old other.now }
+{
+    if is_same(set, other) {
+        return true;
+    }
+    set.copy_from_slice(other);
+    false
 }
 
 // Whether two sets are the same.

@@ -26,7 +26,7 @@ pub fn look(rules: &Ruleset, bounds: &Bounds) -> Node
     requires { atoms_of bounds.now ≡ atoms_in rules.now }
     ensures { (bank : Meaning) → Tells (over bank (atoms_in rules.now) (rules_in rules.now)) (pair_of bounds.now) result }
 {
-    if bounds.is_contradictory() || rules.bar_holds(&bounds.sure, &bounds.possible) {
+    if bounds.is_contradictory() || rules.bar_holds(bounds.sure, bounds.possible) {
         return Node::Refuted;
     }
     match bounds.first_open() {

@@ -7,6 +7,7 @@ ghost use Rattle.enumeration.specs.Visits.{Visited, is_found};
 
 use crate::marks::mark;
 use crate::node::{Node, look};
+use bounds::pair::Bounds;
 use bounds::program::Program;
 use lines::stack::Stack;
 use modules::query::Module;
@@ -26,16 +27,24 @@ pub fn visit<M: Module>(program: &Program<M>, choices: &Stack<Literal>, plan: &m
     ensures kept { is_found result ≡ false → plan.new ≡ plan.old }
     ensures visited { Visited (program_of M.Module.meaning program.now) (newest_first choices.now) plan.new result }
 {
+    let atoms = plan.len();
     let mut room = [0u8; 256];
-    let marks = &mut room[0..plan.len()];
+    let mut sure = [0u8; 256];
+    let mut possible = [0u8; 256];
+    let marks = &mut room[0..atoms];
+    let mut bounds = Bounds {
+        sure: &mut sure[0..atoms],
+        possible: &mut possible[0..atoms],
+    };
     mark(choices, marks);
-    let bounds = program.narrow(marks);
+    program.narrow(marks, &mut bounds);
     match look(program.rules, &bounds) {
         Node::Refuted => Outcome::Passed,
         Node::Branches(atom) => Outcome::Opens(atom),
         Node::Meets => {
-            if program.is_plan(&bounds.sure) {
-                plan.copy_from_slice(&bounds.sure);
+            let candidate = bounds.sure();
+            if program.is_plan(candidate) {
+                plan.copy_from_slice(candidate);
                 Outcome::Found
             } else {
                 Outcome::Passed

@@ -7,7 +7,7 @@ pub loop-position-preserved : goal.loop-position-preserved
 loop-position-preserved g c =
     let m = g.M.Module.meaning c.args.bank.now in
     let passes : ℕ → Bool = λ p. m.given p c.args.set.now in
-    let n = length c.args.set.now in
+    let n = length c.clear.new.set in
     let k = c.loop-position.position in
     let inv = c.loop-position.invariant in
     elim c.if-given.branch [
@@ -20,4 +20,5 @@ returns g c =
     let m = g.M.Module.meaning c.args.bank.now in
     let passes : ℕ → Bool = λ p. m.given p c.args.set.now in
     let all : c.loop-position.position ≡ m.outputs = omega arith in
-    c.loop-position.invariant ∙ ap (found m passes (length c.args.set.now)) all
+    let size : length c.clear.new.set ≡ length c.args.outputs.now = omega arith in
+    c.loop-position.invariant ∙ ap (found m passes (length c.clear.new.set)) all ∙ ap (λ n. found m passes n m.outputs) size

@@ -1,9 +1,7 @@
-use Rattle.std.proofs.Common.{◌≡◌, not}
-use Rattle.semantics.specs.Sets.{tabled}
+use Rattle.std.proofs.Common.{not}
 use Rattle.semantics.specs.Alternating.{marks_in, is_present, is_absent}
+use Rattle.bounds.proofs.Fills.{Filled}
 use Rattle.bounds.proofs.marks.widen.Given as goal
 
-abbrev pub invariant-loop-mark : goal.invariant-loop-mark
-invariant-loop-mark l =
-    (l.sure.items ≡ tabled (λ a. is_present (marks_in l.marks a)) 0 l.mark-index) ×
-    (l.possible.items ≡ tabled (λ a. not (is_absent (marks_in l.marks a))) 0 l.mark-index)
+abbrev pub invariant-loop-atom : goal.invariant-loop-atom
+invariant-loop-atom l = Filled (λ a. is_present (marks_in l.marks a)) l.atom l.sure × Filled (λ a. not (is_absent (marks_in l.marks a))) l.atom l.possible

@@ -1,6 +1,5 @@
-use Rattle.std.proofs.Common.{◌≡◌, false, sym, ap, ◌∙◌}
+use Rattle.std.proofs.Common.{sym, ◌∙◌}
 use Rattle.semantics.specs.Plans.{over}
-use Rattle.semantics.specs.Rules.{bar_holds}
 use Rattle.semantics.proofs.Bounds.{calm_from}
 use Rattle.derivation.specs.Rulesets.{atoms_in, rules_in}
 use Rattle.bounds.specs.Pairs.{pair_of}
@@ -14,8 +13,4 @@ returns-in-Some c bank =
     let b = c.args.bounds.now in
     let q = pair_of b in
     let low = clash_free q (sym c.is_contradictory.ensures ∙ c.if-is_contradictory.false) in
-    let unbarred : bar_holds p.rules q.sure q.possible ≡ false =
-    ap (bar_holds p.rules q.sure) (sym c.deref-else-is_contradictory.ensures.0) ∙
-    ap (λ s. bar_holds p.rules s c.deref-else-is_contradictory.result.now) (sym c.deref.ensures.0) ∙
-    sym c.bar_holds.ensures ∙ c.if-bar_holds.false in
-    (record { calm = calm_from p q low; unbarred = unbarred }, lowest_open p q c.in-Some.atom (b.alike ∙ c.requires) low c.in-Some.ensures)
+    (record { calm = calm_from p q low; unbarred = sym c.bar_holds.ensures ∙ c.if-bar_holds.false }, lowest_open p q c.in-Some.atom (b.alike ∙ c.requires) low c.in-Some.ensures)

@@ -10,24 +10,24 @@ pub returns-in-Refuted-clause-visited : goal.returns-in-Refuted-clause-visited
 returns-in-Refuted-clause-visited g c =
     let p = program_of g.M.Module.meaning c.args.program.now in
     let size : length c.mark.new.marks ≡ p.atoms = omega arith in
-    refuted_passes p (newest_first c.args.choices.now) c.mark.new.marks (pair_of c.narrow-bounds.result) size c.mark.ensures c.narrow-bounds.ensures.narrowed (c.in-Refuted.ensures p.bank)
+    refuted_passes p (newest_first c.args.choices.now) c.mark.new.marks (pair_of c.narrow.new.bounds) size c.mark.ensures c.narrow.ensures.narrowed (c.in-Refuted.ensures p.bank)
 
 pub returns-in-Branches-clause-visited : goal.returns-in-Branches-clause-visited
 returns-in-Branches-clause-visited g c =
     let p = program_of g.M.Module.meaning c.args.program.now in
     let size : length c.mark.new.marks ≡ p.atoms = omega arith in
-    branch_goes_on p (newest_first c.args.choices.now) c.mark.new.marks (pair_of c.narrow-bounds.result) size c.mark.ensures c.narrow-bounds.ensures.narrowed c.in-Branches.atom (c.in-Branches.ensures p.bank)
+    branch_goes_on p (newest_first c.args.choices.now) c.mark.new.marks (pair_of c.narrow.new.bounds) size c.mark.ensures c.narrow.ensures.narrowed c.in-Branches.atom (c.in-Branches.ensures p.bank)
 
 pub returns-then-is_plan-clause-visited : goal.returns-then-is_plan-clause-visited
 returns-then-is_plan-clause-visited g c =
     let p = program_of g.M.Module.meaning c.args.program.now in
     let size : length c.mark.new.marks ≡ p.atoms = omega arith in
-    leaf_found p (newest_first c.args.choices.now) c.mark.new.marks (pair_of c.narrow-bounds.result) size c.mark.ensures c.narrow-bounds.ensures.narrowed (c.in-Meets.ensures p.bank)
-    (ap (is_plan p) (sym c.deref.ensures.0) ∙ sym c.is_plan.ensures ∙ c.if-is_plan.true) c.copy_from_slice.new.self (c.copy_from_slice.ensures.after ∙ c.deref-then-is_plan.ensures.0)
+    leaf_found p (newest_first c.args.choices.now) c.mark.new.marks (pair_of c.narrow.new.bounds) size c.mark.ensures c.narrow.ensures.narrowed (c.in-Meets.ensures p.bank)
+    (ap (is_plan p) (sym c.sure-candidate.ensures) ∙ sym c.is_plan.ensures ∙ c.if-is_plan.true) c.copy_from_slice.new.self (c.copy_from_slice.ensures.after ∙ c.sure-candidate.ensures)
 
 pub returns-else-is_plan-clause-visited : goal.returns-else-is_plan-clause-visited
 returns-else-is_plan-clause-visited g c =
     let p = program_of g.M.Module.meaning c.args.program.now in
     let size : length c.mark.new.marks ≡ p.atoms = omega arith in
-    miss_passes p (newest_first c.args.choices.now) c.mark.new.marks (pair_of c.narrow-bounds.result) size c.mark.ensures c.narrow-bounds.ensures.narrowed (c.in-Meets.ensures p.bank)
-    (ap (is_plan p) (sym c.deref.ensures.0) ∙ sym c.is_plan.ensures ∙ c.if-is_plan.false)
+    miss_passes p (newest_first c.args.choices.now) c.mark.new.marks (pair_of c.narrow.new.bounds) size c.mark.ensures c.narrow.ensures.narrowed (c.in-Meets.ensures p.bank)
+    (ap (is_plan p) (sym c.sure-candidate.ensures) ∙ sym c.is_plan.ensures ∙ c.if-is_plan.false)

@@ -10,4 +10,5 @@ use Rattle.bounds.proofs.program.Program.narrow.Given as goal
 abbrev pub invariant-loop-turn : goal.invariant-loop-turn
 invariant-loop-turn g l =
     (atoms_of l.bounds ≡ atoms_in l.self.rules.now) ×
+    (atoms_of l.given ≡ atoms_in l.self.rules.now) ×
     (WellFormed (program_of g.M.Module.meaning l.self) → Underway (program_of g.M.Module.meaning l.self) (marks_in l.marks) l._turn (pair_of l.bounds))
