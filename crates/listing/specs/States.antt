@@ -1,5 +1,5 @@
 -- How far a listing has come, as the model names it.
-use Rattle.std.specs.Prelude.{ℕ, cond, ◌==◌}
+use Rattle.std.specs.Prelude.{ℕ, if◌then◌else◌, ◌==◌}
 use Rattle.semantics.specs.Sheets.{Listing as Progress, Fresh as fresh, Running as running, Ended as ended, Full as full}
 use Rattle.listing.specs.declared.state.Listing.{Listing}
 use Rattle.listing.specs.declared.state.Listing.TheVariants.{Fresh, Running, Ended, Full}
@@ -13,4 +13,4 @@ listing_of Full = full
 
 -- the listing after a plan, with so many handed out: full at a million
 abbrev pub after_plan : ℕ → Progress
-after_plan handed = cond (handed == 1_000_000) full running
+after_plan handed = if handed == 1_000_000 then full else running

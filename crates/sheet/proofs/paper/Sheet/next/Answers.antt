@@ -1,6 +1,5 @@
 use Rattle.std.proofs.Common.{◌≡◌, ◌<◌, true, false, length, sym, ap, ◌∙◌, rules}
 use Rattle.std.specs.Vec.{with_items}
-use Rattle.std.proofs.lemmas.Bool.{ltb-true}
 use Rattle.std.proofs.lemmas.List.{with_items_is}
 use Rattle.semantics.specs.Sheets.{is_full}
 use Rattle.listing.specs.Tallies.{Counted}
@@ -17,7 +16,7 @@ returns-in_default-true-true-clause-stepped g c =
     let set = c.look-found.new.plan in
     let size = length c.args.buffer.now in
     let looked = c.in_default-true-true.ensures in
-    let laid : 0 < length s.levels = ltb-true 0 (length s.levels) (sym c.if-not-is_laid.ensures) in
+    let laid : 0 < length s.levels = search rules in
     let fits : size ≡ length s.levels = search rules in
     let tallied : length s.tallies ≡ length s.levels = search rules in
     let levels : u.levels ≡ s.levels = ap (λ x. x.levels) looked.opened in
@@ -36,7 +35,7 @@ returns-in_default-true-false-clause-stepped g c =
     let set = c.look-found.new.plan in
     let size = length c.args.buffer.now in
     let looked = c.in_default-true-false.ensures in
-    let laid : 0 < length s.levels = ltb-true 0 (length s.levels) (sym c.if-not-is_laid.ensures) in
+    let laid : 0 < length s.levels = search rules in
     let fits : size ≡ length s.levels = search rules in
     let going : is_full u.listing ≡ false = search rules in
     comes_to_end bank s _ u.opened set size laid fits (if_looked s.listing (in_force bank s) s.opened u.opened set false size (length s.levels) fits looked.looked)
