@@ -9,6 +9,6 @@ pub returns : goal.returns
 returns c d k at tells more =
     let self = c.args.self.now in
     let a = c.args.atom in
-    let next : c.saturating_add.result ≡ a + 1 = omega (arith, c.saturating_add.ensures, self.sheet.few, self.sheet.levels.ok.0) in
+    let next : c.saturating_add.result ≡ a + 1 = omega (arith, c.saturating_add.ensures, self.sheet.parts.few, self.sheet.parts.levels.ok.0) in
     tell_here d k self at a tells more _ c.unwrap_or-name.result.now (tally_of c.in_ok-told.told) refl refl refl (ap Tells next)
     (name_is (declared self.names) a c.get.result _ c.unwrap_or-name.result (rw c.from.ensures at c.get.ensures) refl c.unwrap_or-name.ensures) c.in_ok-tell_line.ensures c.in_ok-told.ensures
