@@ -36,8 +36,9 @@ pub fn plan_line(line: &mut Vec<u8>, names: &[&[u8]], plan: &[u8]) -> Result<(),
 pub fn end_line(line: &mut Vec<u8>, count: u32) -> Result<(), AllocError>
     ensures { OnOk result (line.new.items ≡ end_line count) }
 {
+    let text = format!(in *line.allocator(); "end,{count}\n")?;
     line.clear();
-    writeln!(line, "end,{count}").map_err(|_| AllocError)
+    line.extend_from_slice(text.as_bytes())
 }
 
 // What is told of an atom: its name, how many plans hold it, whether some do, and whether all do.
@@ -47,10 +48,11 @@ pub fn tell_line(line: &mut Vec<u8>, name: &[u8], told: Told) -> Result<(), Allo
     let held = told.held;
     let some = u8::from(told.brave);
     let all = u8::from(told.cautious);
+    let rest = format!(in *line.allocator(); ",{held},{some},{all}\n")?;
     line.clear();
     line.extend_from_slice(b"tell,")?;
     line.extend_from_slice(name)?;
-    writeln!(line, ",{held},{some},{all}").map_err(|_| AllocError)
+    line.extend_from_slice(rest.as_bytes())
 }
 
 // A fault, by its number and its place in the text.
