@@ -3,7 +3,7 @@ use Rattle.std.proofs.Common.{◌≡◌, ℕ, zero, suc, ◌<◌, Bool, false, �
 use Rattle.std.proofs.lemmas.Bool.{eq-eqb}
 use Rattle.semantics.specs.Sets.{has, tabled}
 use Rattle.semantics.proofs.Booleans.{holds, same_tests, or_left, or_right, or_cases}
-use Rattle.semantics.proofs.Bytes.{bit, has-tabled, tabled_canonical, tabled_has, tabled_passes, set_canonical, same_canonical, has-set, set_cases, set_more}
+use Rattle.semantics.proofs.Bytes.{has-tabled, tabled_canonical, tabled_has, tabled_passes, set_canonical, same_canonical, has-set, set_cases, set_more}
 
 -- tests that agree below n write one set
 pub tabled_alike : (f g : ℕ → Bool) (n : ℕ) → ((a : ℕ) → a < n → f a ≡ g a) → tabled f 0 n ≡ tabled g 0 n

@@ -1,5 +1,5 @@
 -- The worklist: how a least model comes about, step by step.
-use Rattle.std.proofs.Common.{◌≡◌, ℕ, zero, suc, ◌<◌, Bool, true, false, cond, not, ◌&&◌, T, ◌⊎◌, List, [], ◌∷◌, ◌++◌, length, get_or, set, sym, refl, ap, ◌∙◌, subst, inl, inr, arith, eqb→eq}
+use Rattle.std.proofs.Common.{◌≡◌, ℕ, suc, ◌<◌, Bool, true, false, cond, not, ◌&&◌, T, ◌⊎◌, List, [], ◌∷◌, ◌++◌, length, get_or, set, sym, refl, ap, ◌∙◌, subst, inl, inr, arith, eqb→eq}
 use lib.Dec.{eqb_refl}
 use Rattle.std.proofs.lemmas.List.{append-nil, length-set}
 use Rattle.semantics.specs.declared.Side.{Side}
@@ -7,7 +7,7 @@ use Rattle.semantics.specs.declared.Side.TheVariants.{Present, Absent}
 use Rattle.semantics.specs.declared.Literal.{Literal}
 use Rattle.semantics.specs.declared.Head.{Head}
 use Rattle.semantics.specs.declared.Head.TheVariants.{Bar, Atom}
-use Rattle.semantics.specs.Sets.{has, ◌⊆◌, Canonical, ◌∈◌, any, all}
+use Rattle.semantics.specs.Sets.{has, ◌⊆◌, Canonical, any, all}
 use Rattle.semantics.specs.Rules.{Rule, literal_holds, body_holds, heads, derives, follows, least, rule_below, head_below}
 use Rattle.semantics.proofs.Booleans.{or_cases, or_left, or_right, and_left, and_right, and_from, fails, holds, all_each, any_from}
 use Rattle.semantics.proofs.Bytes.{has_below, has-set, set_canonical, set_more, set_cases}

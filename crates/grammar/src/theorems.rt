@@ -3,15 +3,12 @@ ghost use Rattle.grammar.specs.Format.{AcceptedIsRendered, RenderedIsAccepted, R
 
 pub fn accepted_is_rendered()
     ensures { AcceptedIsRendered }
-{
-}
+{}
 
 pub fn rendered_is_accepted()
     ensures { RenderedIsAccepted }
-{
-}
+{}
 
 pub fn readings_are_one()
     ensures { ReadingsAreOne }
-{
-}
+{}
