@@ -82,11 +82,13 @@ pub fn levels(heap: Global) -> Notes {
     notes
 }
 
-// The last answer of so many entries.
-fn enter_many(sheet: &mut Sheet<Empty>, count: u16) -> u32 {
+// The last answer of so many calls.
+fn repeat<F: FnMut() -> Result<(), Fault>>(count: u16, mut call: F) -> u32
+    requires { F.IsAlwaysCallable call }
+{
     let mut answer = 0;
     for _ in 0..count {
-        answer = number(sheet.enter(Head::Atom(0), &[]));
+        answer = number(call());
     }
     answer
 }
@@ -95,7 +97,7 @@ pub fn lines(heap: Global) -> Notes {
     let mut notes = Notes::new();
     let mut sheet = Sheet::blank(heap, Empty);
     let _ = sheet.lay(&[0]);
-    notes.add(enter_many(&mut sheet, 511));
+    notes.add(repeat(511, || sheet.enter(Head::Atom(0), &[])));
     notes.add(number(sheet.enter(Head::Bar, &[negated(0)])));
     notes.add(number(sheet.enter(Head::Atom(0), &[])));
     notes.add(number(sheet.enter(Head::Atom(9), &[])));
@@ -131,19 +133,10 @@ pub fn literals(heap: Global) -> Notes {
     notes
 }
 
-// The last answer of so many rows.
-fn push_many(table: &mut PairTable, count: u16) -> u32 {
-    let mut answer = 0;
-    for _ in 0..count {
-        answer = number(table.push_row(row(0, 0, 1)));
-    }
-    answer
-}
-
 pub fn rows(heap: Global) -> Notes {
     let mut notes = Notes::new();
     let mut table = PairTable::new(heap);
-    notes.add(push_many(&mut table, 64));
+    notes.add(repeat(64, || table.push_row(row(0, 0, 1))));
     notes.add(number(table.push_row(row(0, 0, 2))));
     let mut sheet = Sheet::blank(heap, table);
     notes.add(number(sheet.lay(&[0, 1])));
