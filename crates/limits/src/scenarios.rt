@@ -3,6 +3,7 @@ use crate::notes::Notes;
 use faults::Fault;
 use modules::query::{Empty, Module};
 use modules::rows::{Pair, PairTable};
+use semantics::Side::{Absent, Present};
 use semantics::{Head, Literal, Side};
 use sheet::paper::{Sheet, Step};
 use std::alloc::Global;
@@ -11,18 +12,8 @@ const ACCEPTED: u32 = 255;
 
 const NO_MORE: u32 = 254;
 
-fn plain(atom: u16) -> Literal {
-    Literal {
-        atom,
-        side: Side::Present,
-    }
-}
-
-fn negated(atom: u16) -> Literal {
-    Literal {
-        atom,
-        side: Side::Absent,
-    }
+fn literal(atom: u16, side: Side) -> Literal {
+    Literal { atom, side }
 }
 
 fn row(one: u16, other: u16, to: u16) -> Pair {
@@ -98,7 +89,7 @@ pub fn lines(heap: Global) -> Notes {
     let mut sheet = Sheet::blank(heap, Empty);
     let _ = sheet.lay(&[0]);
     notes.add(repeat(511, || sheet.enter(Head::Atom(0), &[])));
-    notes.add(number(sheet.enter(Head::Bar, &[negated(0)])));
+    notes.add(number(sheet.enter(Head::Bar, &[literal(0, Absent)])));
     notes.add(number(sheet.enter(Head::Atom(0), &[])));
     notes.add(number(sheet.enter(Head::Atom(9), &[])));
     let _ = sheet.lay(&[0]);
@@ -108,7 +99,7 @@ pub fn lines(heap: Global) -> Notes {
 
 pub fn bodies(heap: Global) -> Notes {
     let mut notes = Notes::new();
-    let body = [plain(0); 9];
+    let body = [literal(0, Present); 9];
     let mut sheet = Sheet::blank(heap, Empty);
     let _ = sheet.lay(&[0]);
     notes.add(number(sheet.enter(Head::Atom(0), &body[0..8])));
@@ -119,8 +110,8 @@ pub fn bodies(heap: Global) -> Notes {
 
 pub fn literals(heap: Global) -> Notes {
     let mut notes = Notes::new();
-    let stray = [plain(0), plain(2)];
-    let high = [plain(0), negated(1), plain(2)];
+    let stray = [literal(0, Present), literal(2, Present)];
+    let high = [literal(0, Present), literal(1, Absent), literal(2, Present)];
     let mut sheet = Sheet::blank(heap, Empty);
     let _ = sheet.lay(&[0, 1]);
     notes.add(number(sheet.enter(Head::Atom(2), &stray)));
@@ -173,8 +164,8 @@ pub fn never_laid(heap: Global) -> Notes {
 fn even_pair(heap: Global) -> Sheet<Empty> {
     let mut sheet = Sheet::blank(heap, Empty);
     let _ = sheet.lay(&[0, 0]);
-    let _ = sheet.enter(Head::Atom(0), &[negated(1)]);
-    let _ = sheet.enter(Head::Atom(1), &[negated(0)]);
+    let _ = sheet.enter(Head::Atom(0), &[literal(1, Absent)]);
+    let _ = sheet.enter(Head::Atom(1), &[literal(0, Absent)]);
     sheet
 }
 
@@ -201,7 +192,7 @@ pub fn entry(heap: Global) -> Notes {
     let mut plan = [7u8; 2];
     let mut sheet = Sheet::blank(heap, Empty);
     let _ = sheet.lay(&[0, 0]);
-    let _ = sheet.enter(Head::Atom(1), &[negated(0)]);
+    let _ = sheet.enter(Head::Atom(1), &[literal(0, Absent)]);
     notes.add(step(&mut sheet, &mut plan));
     notes.add(step(&mut sheet, &mut plan));
     note_told(&mut notes, &sheet, 1);
