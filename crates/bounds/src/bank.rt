@@ -37,6 +37,8 @@ pub(crate) enum Standing {
 // The atoms that the bank surely and possibly gives at the sets between the bounds.
 pub(crate) fn query_between<M: Module>(bank: &M, bounds: &Bounds, given: &mut Bounds)
     requires { atoms_of given.old ≡ atoms_of bounds.now }
+    ensures lender_sure { given.new.sure.ghost_name ≡ given.old.sure.ghost_name }
+    ensures lender_possible { given.new.possible.ghost_name ≡ given.old.possible.ghost_name }
     ensures sure { given.new.sure.now ≡ tabled (surely (bank_alone (M.Module.meaning bank.now) (atoms_of bounds.now)) (pair_of bounds.now)) 0 (atoms_of bounds.now) }
     ensures possible { given.new.possible.now ≡ tabled (possibly (bank_alone (M.Module.meaning bank.now) (atoms_of bounds.now)) (pair_of bounds.now)) 0 (atoms_of bounds.now) }
 {
@@ -47,6 +49,8 @@ pub(crate) fn query_between<M: Module>(bank: &M, bounds: &Bounds, given: &mut Bo
 
 // Queries each position once, where these atoms are possible and not sure.
 fn query_positions<M: Module>(bank: &M, sure: &[u8], unknown: &[u16], given: &mut Bounds)
+    ensures lender_sure { given.new.sure.ghost_name ≡ given.old.sure.ghost_name }
+    ensures lender_possible { given.new.possible.ghost_name ≡ given.old.possible.ghost_name }
     ensures sure { given.new.sure.now ≡ tabled (some_output (M.Module.meaning bank.now) (λ k. reads_none (M.Module.meaning bank.now) unknown.now k && (M.Module.meaning bank.now).given k sure.now)) 0 (atoms_of given.old) }
     ensures possible { given.new.possible.now ≡ tabled (some_output (M.Module.meaning bank.now) (λ k. not (reads_none (M.Module.meaning bank.now) unknown.now k) || (M.Module.meaning bank.now).given k sure.now)) 0 (atoms_of given.old) }
 {

@@ -22,6 +22,8 @@ impl<'a, M: Module> Program<'a, M> {
     pub fn narrow(&self, marks: &[u8], bounds: &mut Bounds)
         requires marks { length marks.now ≡ atoms_in self.now.rules.now }
         requires bounds { atoms_of bounds.old ≡ atoms_in self.now.rules.now }
+        ensures lender_sure { bounds.new.sure.ghost_name ≡ bounds.old.sure.ghost_name }
+        ensures lender_possible { bounds.new.possible.ghost_name ≡ bounds.old.possible.ghost_name }
         ensures size { atoms_of bounds.new ≡ atoms_in self.now.rules.now }
         ensures narrowed { NarrowedTo (program_of M.Module.meaning self.now) (marks_in marks.now) (pair_of bounds.new) }
     {

@@ -36,6 +36,10 @@ pub(crate) fn round(
     requires bounds { atoms_of bounds.old ≡ atoms_in rules.now }
     requires given { atoms_of given.old ≡ atoms_in rules.now }
     requires canonical { Canonical (atoms_in rules.now) given.old.possible.now }
+    ensures lender_sure { bounds.new.sure.ghost_name ≡ bounds.old.sure.ghost_name }
+    ensures lender_possible { bounds.new.possible.ghost_name ≡ bounds.old.possible.ghost_name }
+    ensures given_sure { given.new.sure.ghost_name ≡ given.old.sure.ghost_name }
+    ensures given_possible { given.new.possible.ghost_name ≡ given.old.possible.ghost_name }
     ensures narrowed { pair_of bounds.new ≡ rounded (rules_in rules.now) (atoms_in rules.now) (marks_in marks.now) (pair_of given.old) (pair_of bounds.old) }
     ensures room { atoms_of given.new ≡ atoms_in rules.now }
     ensures end { result ≡ ending (atoms_in rules.now) (pair_of bounds.old) (pair_of bounds.new) }
@@ -59,7 +63,9 @@ fn derive_pair(rules: &Ruleset, marks: &[u8], bounds: &Bounds, given: &mut Bound
     requires bounds { atoms_of bounds.now ≡ atoms_in rules.now }
     requires given { atoms_of given.old ≡ atoms_in rules.now }
     requires canonical { Canonical (atoms_in rules.now) given.old.possible.now }
-    ensures { pair_of given.new ≡ rounded (rules_in rules.now) (atoms_in rules.now) (marks_in marks.now) (pair_of given.old) (pair_of bounds.now) }
+    ensures lender_sure { given.new.sure.ghost_name ≡ given.old.sure.ghost_name }
+    ensures lender_possible { given.new.possible.ghost_name ≡ given.old.possible.ghost_name }
+    ensures rounded { pair_of given.new ≡ rounded (rules_in rules.now) (atoms_in rules.now) (marks_in marks.now) (pair_of given.old) (pair_of bounds.now) }
 {
     hold(marks, given.sure);
     rules.derive(bounds.possible, given.sure);

@@ -18,6 +18,8 @@ returns g c =
     let whole : count - 0 ≡ count = omega arith in
     let atoms : take (count - 0) c.list_unknown-count.new.unknown ≡ unknown_atoms q n = ap (λ k. take k c.list_unknown-count.new.unknown) whole ∙ c.list_unknown-count.ensures.atoms in
     record {
+      lender_sure = c.query_positions.ensures.lender_sure;
+      lender_possible = c.query_positions.ensures.lender_possible;
       sure = c.query_positions.ensures.sure ∙ ap (λ xs. sure-by xs k) atoms ∙ ap (sure-by (unknown_atoms q n)) c.requires ∙ surely_found m q n;
       possible = c.query_positions.ensures.possible ∙ ap (λ xs. possible-by xs k) atoms ∙ ap (possible-by (unknown_atoms q n)) c.requires ∙ possibly_found m q n;
     }

@@ -21,17 +21,17 @@ loop-position-preserved g c =
           let s = sure_standing (settles k) (is-given k) w.in-Sure.ensures in
           let e = found_passed m surely n k s.0 in
           let f = found_passed m possibly n k s.1 in
-          (cc, cc)
+          (cc, cc, cc, cc)
       | in-Open w ↦
           let s = open_standing (settles k) (is-given k) w.in-Open.ensures in
           let e = found_failed m surely n k s.0 in
           let f = found_passed m possibly n k s.1 in
-          (cc, cc)
+          (cc, cc, cc, cc)
       | in-Never w ↦
           let s = never_standing (settles k) (is-given k) w.in-Never.ensures in
           let e = found_failed m surely n k s.0 in
           let f = found_failed m possibly n k s.1 in
-          (cc, cc)
+          (cc, cc, cc, cc)
     ]
 
 pub returns : goal.returns
@@ -45,6 +45,8 @@ returns g c =
     let n = length c.clear.new.set in
     let size : n ≡ atoms_of c.args.given.now = omega arith in
     record {
+      lender_sure = c.loop-position.invariant.2;
+      lender_possible = c.loop-position.invariant.3;
       sure = c.loop-position.invariant.0 ∙ ap (found m surely n) all ∙ ap (λ n. found m surely n m.outputs) size;
       possible = c.loop-position.invariant.1 ∙ ap (found m possibly n) all ∙ ap (λ n. found m possibly n m.outputs) size;
     }

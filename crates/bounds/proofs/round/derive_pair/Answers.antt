@@ -16,8 +16,8 @@ derive-requires c =
     let held = c.hold.ensures ∙ ap (tabled bare 0) c.requires.marks in
     subst (Canonical n) (sym held) (tabled_canonical bare n)
 
-pub returns : goal.returns
-returns c =
+pub returns-clause-rounded : goal.returns-clause-rounded
+returns-clause-rounded c =
     let q = pair_of c.args.bounds.now in
     let rs = rules_in c.args.rules.now in
     let n = atoms_in c.args.rules.now in
