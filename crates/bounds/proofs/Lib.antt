@@ -6,6 +6,6 @@ mod Marking
 mod Knowing
 mod Standings
 mod Sames
-mod Rounding
+pub mod Rounding
 pub mod Beyond
 mod Ending

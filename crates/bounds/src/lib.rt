@@ -14,4 +14,4 @@ pub mod pair;
 pub mod plan_test;
 pub mod program;
 mod round;
-mod sets;
+pub mod sets;

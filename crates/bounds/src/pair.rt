@@ -15,7 +15,6 @@ pub struct Bounds<'a> {
 impl<'a> Bounds<'a> {
     ghost use Rattle.semantics.specs.Sets.{some_below};
     ghost use Rattle.semantics.specs.Alternating.{clashes};
-    ghost use Rattle.bounds.specs.Beyond.{FirstBeyond};
     ghost use Rattle.bounds.specs.Pairs.{pair_of, atoms_of};
 
     // The sure atoms.
@@ -25,17 +24,17 @@ impl<'a> Bounds<'a> {
         self.sure
     }
 
+    // The possible ones.
+    pub fn possible(&self) -> &[u8]
+        ensures { result.now ≡ self.now.possible.now }
+    {
+        self.possible
+    }
+
     // Whether some atom is sure and not possible.
     pub fn is_contradictory(&self) -> bool
         ensures { result ≡ some_below (atoms_of self.now) (clashes (pair_of self.now)) }
     {
         first_beyond(self.sure, self.possible).is_some()
-    }
-
-    // The lowest open atom, possible and not sure, if there is one.
-    pub fn first_open(&self) -> Option<u16>
-        ensures { FirstBeyond self.now.possible.now self.now.sure.now result }
-    {
-        first_beyond(self.possible, self.sure)
     }
 }

@@ -1,4 +1,4 @@
-// Sets of atoms as bytes, 1 for present and 0 for absent: made empty, added to, and compared.
+// Sets of atoms as bytes, 1 for present and 0 for absent: made empty, added to, taken over, and compared.
 ghost use Rattle.std.specs.Prelude.{◌≡◌, ◌≤◌, false, length, slice_set};
 ghost use Rattle.semantics.specs.Sets.{same, tabled};
 ghost use Rattle.bounds.specs.Beyond.{FirstBeyond};
@@ -41,7 +41,7 @@ pub(crate) fn is_same(first: &[u8], second: &[u8]) -> bool
 }
 
 // The lowest atom of a set that is not in another, if there is one.
-pub(crate) fn first_beyond(set: &[u8], other: &[u8]) -> Option<u16>
+pub fn first_beyond(set: &[u8], other: &[u8]) -> Option<u16>
     requires few { length set.now ≤ 256 }
     requires alike { length other.now ≡ length set.now }
     ensures { FirstBeyond set.now other.now result }

@@ -38,7 +38,7 @@ pub fn visit<M: Module>(program: &Program<M>, choices: &Stack<Literal>, plan: &m
     };
     mark(choices, marks);
     program.narrow(marks, &mut bounds);
-    match look(program.rules, &bounds) {
+    match look(program.rules, bounds.sure(), bounds.possible()) {
         Node::Refuted => Outcome::Passed,
         Node::Branches(atom) => Outcome::Opens(atom),
         Node::Meets => {

@@ -12,7 +12,7 @@ pub struct Part<'a> {
 }
 
 // The part that begins at `at` and ends before the next `separator`, or with the bytes.
-fn part_at<'a>(bytes: &'a [u8], at: usize, separator: u8) -> Part<'a>
+pub fn part_at<'a>(bytes: &'a [u8], at: usize, separator: u8) -> Part<'a>
     requires { at ≤ length bytes.now }
     ensures starts { result.at ≡ at }
     ensures part { result.bytes.now ≡ take (run separator (drop at bytes.now)) (drop at bytes.now) }

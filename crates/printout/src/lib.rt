@@ -7,10 +7,8 @@
 
 ghost use Rattle.std.specs.Prelude.{◌≡◌, OnOk};
 ghost use Rattle.std.specs.Io.KnownBytes.{Appends};
-ghost use Rattle.faults.specs.Faults.{number_of};
 ghost use Rattle.printout.specs.Printed.{plan_line, end_line, tell_line, fault_line, texts};
 
-use records::refusal::Refused;
 use sheet::paper::Told;
 use std::alloc::AllocError;
 use std::io;
@@ -56,10 +54,8 @@ pub fn tell_line(line: &mut Vec<u8>, name: &[u8], told: Told) -> Result<(), Allo
 }
 
 // A fault, by its number and its place in the text.
-pub fn fault_line<W: Write>(out: &mut W, refused: Refused) -> io::Result<()>
-    ensures { OnOk result (Appends (W.contents out.old) (W.contents out.new) (fault_line (number_of refused.fault) refused.line refused.byte)) }
+pub fn fault_line<W: Write>(out: &mut W, number: u8, line: usize, byte: usize) -> io::Result<()>
+    ensures { OnOk result (Appends (W.contents out.old) (W.contents out.new) (fault_line number line byte)) }
 {
-    let Refused { fault, line, byte } = refused;
-    let number = fault.number();
     writeln!(out, "fault,{number},{line},{byte}")
 }

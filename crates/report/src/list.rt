@@ -13,7 +13,7 @@ pub fn list<W: Write>(heap: Global, text: &[u8], out: &mut W) -> Result<(), Stop
 {
     match list_lines(heap, text, out) {
         Err(Stop::Refused(refused)) => {
-            fault_line(out, refused)?;
+            fault_line(out, refused.fault.number(), refused.line, refused.byte)?;
             Err(Stop::Refused(refused))
         }
         listed => listed,

@@ -1,7 +1,7 @@
-// What a sheet holds, and the facts that make its code safe.
+// What a sheet holds, and what its calls answer.
 //
-// What ties its lines to the bank's meaning is `Sound`, in specs/: it speaks of the bank, which no
-// fact of a field may do.
+// What ties its lines to the bank's meaning is `Sound`, in specs/. As a fact of the type it would be one
+// more argument of every definition that names a sheet, and the search would break it on its way.
 use crate::parts::Parts;
 use listing::state::Listing;
 use std::alloc::Global;
