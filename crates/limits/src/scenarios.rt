@@ -59,7 +59,7 @@ fn note_plan(notes: &mut Notes, plan: &[u8]) {
     }
 }
 
-pub fn levels(heap: Global) -> Notes {
+pub(crate) fn levels(heap: Global) -> Notes {
     let mut notes = Notes::new();
     let mut levels = [15u8; 257];
     let mut sheet = Sheet::blank(heap, Empty);
@@ -84,7 +84,7 @@ fn repeat<F: FnMut() -> Result<(), Fault>>(count: u16, mut call: F) -> u32
     answer
 }
 
-pub fn lines(heap: Global) -> Notes {
+pub(crate) fn lines(heap: Global) -> Notes {
     let mut notes = Notes::new();
     let mut sheet = Sheet::blank(heap, Empty);
     let _ = sheet.lay(&[0]);
@@ -97,7 +97,7 @@ pub fn lines(heap: Global) -> Notes {
     notes
 }
 
-pub fn bodies(heap: Global) -> Notes {
+pub(crate) fn bodies(heap: Global) -> Notes {
     let mut notes = Notes::new();
     let body = [literal(0, Present); 9];
     let mut sheet = Sheet::blank(heap, Empty);
@@ -108,7 +108,7 @@ pub fn bodies(heap: Global) -> Notes {
     notes
 }
 
-pub fn literals(heap: Global) -> Notes {
+pub(crate) fn literals(heap: Global) -> Notes {
     let mut notes = Notes::new();
     let stray = [literal(0, Present), literal(2, Present)];
     let high = [literal(0, Present), literal(1, Absent), literal(2, Present)];
@@ -124,7 +124,7 @@ pub fn literals(heap: Global) -> Notes {
     notes
 }
 
-pub fn rows(heap: Global) -> Notes {
+pub(crate) fn rows(heap: Global) -> Notes {
     let mut notes = Notes::new();
     let mut table = PairTable::new(heap);
     notes.add(repeat(64, || table.push_row(row(0, 0, 1))));
@@ -134,7 +134,7 @@ pub fn rows(heap: Global) -> Notes {
     notes
 }
 
-pub fn outputs(heap: Global) -> Notes {
+pub(crate) fn outputs(heap: Global) -> Notes {
     let mut notes = Notes::new();
     let mut table = PairTable::new(heap);
     let _ = table.push_row(row(0, 0, 2));
@@ -149,7 +149,7 @@ pub fn outputs(heap: Global) -> Notes {
     notes
 }
 
-pub fn never_laid(heap: Global) -> Notes {
+pub(crate) fn never_laid(heap: Global) -> Notes {
     let mut notes = Notes::new();
     let mut sheet = Sheet::blank(heap, Empty);
     notes.add(number(sheet.enter(Head::Atom(9), &[])));
@@ -169,7 +169,7 @@ fn even_pair(heap: Global) -> Sheet<Empty> {
     sheet
 }
 
-pub fn listing(heap: Global) -> Notes {
+pub(crate) fn listing(heap: Global) -> Notes {
     let mut notes = Notes::new();
     let mut plan = [7u8; 2];
     let mut sheet = even_pair(heap);
@@ -187,7 +187,7 @@ pub fn listing(heap: Global) -> Notes {
     notes
 }
 
-pub fn entry(heap: Global) -> Notes {
+pub(crate) fn entry(heap: Global) -> Notes {
     let mut notes = Notes::new();
     let mut plan = [7u8; 2];
     let mut sheet = Sheet::blank(heap, Empty);
