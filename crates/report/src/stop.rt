@@ -27,11 +27,7 @@ impl From<Fault> for Stop {
     ghost from_gives = { λ e r. r ≡ stop.Refused (record { fault = e; line = 0; byte = 0 }) };
 
     fn from(fault: Fault) -> Stop {
-        Stop::Refused(Refused {
-            fault,
-            line: 0,
-            byte: 0,
-        })
+        Stop::Refused(Refused::from(fault))
     }
 }
 
