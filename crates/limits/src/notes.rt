@@ -1,33 +1,31 @@
 // Numbers noted one after another, up to 32 of them.
-ghost use Rattle.std.specs.Prelude.{◌≡◌, ◌<◌, ◌≤◌, [], ◌∷◌, ◌++◌};
-ghost use Rattle.arrayvec.specs.ArrayVec.{array_vec_len};
+ghost use Rattle.std.specs.Prelude.{◌≡◌, ◌<◌, ◌≤◌, [], ◌∷◌, ◌++◌, length};
+ghost use Rattle.few.specs.Listed.{listed};
 
-use arrayvec::ArrayVec;
+use few::Few;
 
-#[derive(Drop)]
+#[derive(Clone, Copy)]
 pub struct Notes {
-    list: ArrayVec<u32, 32>,
+    list: Few<u32, 32>,
 }
 
 impl Notes {
     pub fn new() -> Notes
-        ensures { result.list.items ≡ [] }
+        ensures { listed result.list ≡ [] }
     {
-        Notes {
-            list: ArrayVec::new(),
-        }
+        Notes { list: Few::new() }
     }
 
     // One more number; past 32 it is let go.
     pub fn add(&mut self, number: u32)
-        ensures added { array_vec_len self.old.list < 32 → self.new.list.items ≡ self.old.list.items ++ number ∷ [] }
-        ensures full { 32 ≤ array_vec_len self.old.list → self.new ≡ self.old }
+        ensures added { length (listed self.old.list) < 32 → listed self.new.list ≡ listed self.old.list ++ number ∷ [] }
+        ensures full { 32 ≤ length (listed self.old.list) → self.new ≡ self.old }
     {
-        let _ = self.list.try_push(number);
+        self.list.push(number);
     }
 
     pub fn numbers(&self) -> &[u32]
-        ensures { result.now ≡ self.now.list.items }
+        ensures { result.now ≡ listed self.now.list }
     {
         self.list.as_slice()
     }

@@ -73,22 +73,12 @@ pub(crate) fn levels(heap: Global) -> Notes {
     notes
 }
 
-// The last answer of so many calls.
-fn repeat<F: FnMut() -> Result<(), Fault>>(count: u16, mut call: F) -> u32
-    requires { F.IsAlwaysCallable call }
-{
-    let mut answer = 0;
-    for _ in 0..count {
-        answer = number(call());
-    }
-    answer
-}
-
 pub(crate) fn lines(heap: Global) -> Notes {
     let mut notes = Notes::new();
     let mut sheet = Sheet::blank(heap, Empty);
     let _ = sheet.lay(&[0]);
-    notes.add(repeat(511, || sheet.enter(Head::Atom(0), &[])));
+    let last = (0..511).map(|_| sheet.enter(Head::Atom(0), &[])).last();
+    notes.add(last.map_or(0, number));
     notes.add(number(sheet.enter(Head::Bar, &[literal(0, Absent)])));
     notes.add(number(sheet.enter(Head::Atom(0), &[])));
     notes.add(number(sheet.enter(Head::Atom(9), &[])));
@@ -127,7 +117,8 @@ pub(crate) fn literals(heap: Global) -> Notes {
 pub(crate) fn rows(heap: Global) -> Notes {
     let mut notes = Notes::new();
     let mut table = PairTable::new(heap);
-    notes.add(repeat(64, || table.push_row(row(0, 0, 1))));
+    let last = (0..64).map(|_| table.push_row(row(0, 0, 1))).last();
+    notes.add(last.map_or(0, number));
     notes.add(number(table.push_row(row(0, 0, 2))));
     let mut sheet = Sheet::blank(heap, table);
     notes.add(number(sheet.lay(&[0, 1])));

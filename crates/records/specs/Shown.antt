@@ -1,5 +1,6 @@
 -- What the code's own structs stand for.
 use Rattle.std.specs.Prelude.{ℕ, List, take, Ok, Err, Result}
+use Rattle.few.specs.Listed.{listed}
 use Rattle.modules.specs.Tables.{row_of}
 use Rattle.records.specs.Reading.{AtomRecord, RowRecord, LineRecord}
 use Rattle.records.specs.declared.refusal.Refusal.{Refusal}
@@ -12,7 +13,7 @@ use Rattle.records.specs.declared.record.Section.TheVariants.{Atoms, Rows, Lines
 
 -- the literals that a body holds
 abbrev pub held : Body → List Placed
-held body = body.placed.items
+held body = listed body.placed
 
 abbrev pub held_in : Result Body Refusal → Result (List Placed) Refusal
 held_in (Ok body) = Ok (held body)

@@ -1,8 +1,9 @@
 //! The body of a line as it was read. A line has at most eight literals, so the ninth is the last that matters:
 //! it shows that there are too many, and where the first one too many begins.
 ghost use Rattle.std.specs.Prelude.{◌≡◌, [], ◌∷◌, ◌++◌, map, take, slice_index};
+ghost use Rattle.few.specs.Listed.{listed};
 
-use arrayvec::ArrayVec;
+use few::Few;
 use semantics::Literal;
 
 // A literal with the byte of its line where its field begins.
@@ -15,34 +16,30 @@ pub struct Placed {
 // One literal more than a line can have.
 const NINE: usize = 9;
 
-#[derive(Drop)]
+#[derive(Clone, Copy)]
 pub struct Body {
-    placed: ArrayVec<Placed, NINE>,
+    placed: Few<Placed, NINE>,
 }
 
 impl Body {
     pub fn empty() -> Body
-        ensures { result.placed.items ≡ [] }
+        ensures { listed result.placed ≡ [] }
     {
-        Body {
-            placed: ArrayVec::new(),
-        }
+        Body { placed: Few::new() }
     }
 
     // Keeps one more literal, unless there are nine.
     pub fn push(&mut self, placed: Placed)
-        ensures { self.new.placed.items ≡ take 9 (self.old.placed.items ++ placed ∷ []) }
+        ensures { listed self.new.placed ≡ take 9 (listed self.old.placed ++ placed ∷ []) }
     {
-        if !self.placed.is_full() {
-            self.placed.push(placed);
-        }
+        self.placed.push(placed);
     }
 
-    pub fn literals(&self) -> ArrayVec<Literal, NINE>
-        ensures { result.items ≡ map (λ l. l.literal) self.now.placed.items }
+    pub fn literals(&self) -> Few<Literal, NINE>
+        ensures { listed result ≡ map (λ l. l.literal) (listed self.now.placed) }
     {
-        let mut literals = ArrayVec::new();
-        for placed in self.placed.iter() {
+        let mut literals = Few::new();
+        for placed in self.placed.as_slice() {
             literals.push(placed.literal);
         }
         literals
@@ -50,8 +47,11 @@ impl Body {
 
     // Where the literal at this place begins, and 0 where there is none.
     pub fn byte(&self, place: usize) -> usize
-        ensures { result ≡ slice_index (map (λ l. l.byte) self.now.placed.items) place }
+        ensures { result ≡ slice_index (map (λ l. l.byte) (listed self.now.placed)) place }
     {
-        self.placed.get(place).map_or(0, |placed| placed.byte)
+        self.placed
+            .as_slice()
+            .get(place)
+            .map_or(0, |placed| placed.byte)
     }
 }

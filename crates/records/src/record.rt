@@ -22,7 +22,7 @@ pub struct Row {
 }
 
 // A line or a bar.
-#[derive(Drop)]
+#[derive(Clone, Copy)]
 pub struct Line {
     pub head: Head,
     pub body: Body,

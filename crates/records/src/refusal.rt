@@ -7,7 +7,7 @@ use faults::Fault;
 use std::alloc::{AllocError, AllocFailed as Unstored};
 
 // A fault with the byte of its line, from 0, where the field that it points to begins.
-#[derive(Clone, Copy)]
+#[derive(Clone, Copy, Debug)]
 pub struct Refusal {
     pub fault: Fault,
     pub byte: usize,
@@ -33,7 +33,7 @@ impl Refusal {
 }
 
 // A fault with its line, from 1, and the byte of that line; a fault of the whole text has line 0 and byte 0.
-#[derive(Clone, Copy)]
+#[derive(Clone, Copy, Debug)]
 pub struct Refused {
     pub fault: Fault,
     pub line: usize,

@@ -28,12 +28,12 @@ module _ (c : goal.After-map_err) (d : Declared) (rules : List Rule) (n : ℕ) (
   by : (r : Result (Unit {0}) Fault) → Entered (pair_table (rows_of c.args.sheet.now.bank)) (contents c.args.sheet.now) (contents c.enter.new.self) (said c).head c.as_slice.result.now r
       → Placed c r → Enters d rules n c.args.letter (left c.args.fields) c.enter.new.self c.map_err.result
   by (Ok u) called is =
-      let same : c.as_slice.result.now ≡ literals_of (said c).body = c.as_slice.ensures.value ∙ c.literals.ensures in
+      let same : c.as_slice.result.now ≡ literals_of (said c).body = c.as_slice.ensures ∙ c.literals.ensures in
       let read = entering_said d rules n c.args.letter (left c.args.fields) (declared c.args.names.now) (said c) names c.in_ok-line.ensures in
       let h = enters_ok d rules n (contents c.args.sheet.now) (contents c.enter.new.self) (rows_of c.args.sheet.now.bank) (said c) c.as_slice.result.now holds.bank_is same holds.state_is holds.sound called in
       rw is (line (said c).head (literals_of (said c).body), read ∙ h.0, record { bank_is = ap rows_of c.enter.ensures.same ∙ holds.bank_is; state_is = h.1; sound = h.2 })
   by (Err f) called is =
-      let same : c.as_slice.result.now ≡ literals_of (said c).body = c.as_slice.ensures.value ∙ c.literals.ensures in
+      let same : c.as_slice.result.now ≡ literals_of (said c).body = c.as_slice.ensures ∙ c.literals.ensures in
       let read = entering_said d rules n c.args.letter (left c.args.fields) (declared c.args.names.now) (said c) names c.in_ok-line.ensures in
       let h = enters_not d rules n (contents c.args.sheet.now) (contents c.enter.new.self) (rows_of c.args.sheet.now.bank) (said c) c.as_slice.result.now f (enter_byte (said c).body (flaw f)) holds.bank_is same holds.state_is called refl in
       rw is (⊎_elim (λ e. inl (read ∙ e)) (λ m. inr m) h)
