@@ -42,12 +42,17 @@ pub(crate) fn query_between<M: Module>(bank: &M, bounds: &Bounds, given: &mut Bo
     ensures sure { given.new.sure.now ≡ tabled (surely (bank_alone (M.Module.meaning bank.now) (atoms_of bounds.now)) (pair_of bounds.now)) 0 (atoms_of bounds.now) }
     ensures possible { given.new.possible.now ≡ tabled (possibly (bank_alone (M.Module.meaning bank.now) (atoms_of bounds.now)) (pair_of bounds.now)) 0 (atoms_of bounds.now) }
 {
+    if bank.outputs() == 0 {
+        clear(given.sure);
+        clear(given.possible);
+        return;
+    }
     let mut room = [0u16; 256];
     let count = list_unknown(bounds, &mut room[..]);
     query_positions(bank, bounds.sure, &room[0..count], given);
 }
 
-// Queries each position once, where these atoms are possible and not sure.
+// Queries each position once, where these atoms are possible and not sure. One whose atom no set has is passed over.
 fn query_positions<M: Module>(bank: &M, sure: &[u8], unknown: &[u16], given: &mut Bounds)
     ensures lender_sure { given.new.sure.ghost_name ≡ given.old.sure.ghost_name }
     ensures lender_possible { given.new.possible.ghost_name ≡ given.old.possible.ghost_name }
@@ -58,13 +63,15 @@ fn query_positions<M: Module>(bank: &M, sure: &[u8], unknown: &[u16], given: &mu
     clear(given.possible);
     for position in 0..bank.outputs() {
         let atom = bank.atom(position);
-        match find_standing(bank, position, sure, unknown) {
-            Standing::Sure => {
-                put(given.sure, atom);
-                put(given.possible, atom);
+        if (atom as usize) < given.sure.len() {
+            match find_standing(bank, position, sure, unknown) {
+                Standing::Sure => {
+                    put(given.sure, atom);
+                    put(given.possible, atom);
+                }
+                Standing::Open => put(given.possible, atom),
+                Standing::Never => {}
             }
-            Standing::Open => put(given.possible, atom),
-            Standing::Never => {}
         }
     }
 }

@@ -56,8 +56,7 @@ pub(crate) fn round(
     }
 }
 
-// Derives the new sets in the place of what the bank gives. Inlined into the search it would be a tenth slower.
-#[inline(never)]
+// Derives the new sets in the place of what the bank gives.
 fn derive_pair(rules: &Ruleset, marks: &[u8], bounds: &Bounds, given: &mut Bounds)
     requires marks { length marks.now ≡ atoms_in rules.now }
     requires bounds { atoms_of bounds.now ≡ atoms_in rules.now }

@@ -7,7 +7,7 @@ use Rattle.semantics.specs.declared.Side.TheVariants.{Present, Absent}
 use Rattle.semantics.specs.declared.Literal.{Literal}
 use Rattle.semantics.specs.declared.Head.{Head}
 use Rattle.semantics.specs.declared.Head.TheVariants.{Bar, Atom}
-use Rattle.semantics.specs.Sets.{has, ◌⊆◌, Canonical, any, all}
+use Rattle.semantics.specs.Sets.{has, ◌⊆◌, Canonical, any, all, ◌∈◌}
 use Rattle.semantics.specs.Rules.{Rule, literal_holds, body_holds, heads, derives, follows, least, rule_below, head_below}
 use Rattle.semantics.proofs.Booleans.{or_cases, or_left, or_right, and_left, and_right, and_from, fails, holds, all_each, any_from}
 use Rattle.semantics.proofs.Bytes.{has_below, has-set, set_canonical, set_more, set_cases}
@@ -161,6 +161,9 @@ module _ (rs : List Rule) (by bare : List ℕ) where
               Underway rs by bare todo' (joined_by model (due model (body_holds model by (rule i).body) g)) (pending ++ due model (body_holds model by (rule i).body) g)
           go Bar e = fire_none (λ b. rw e (λ a z. absurd z))
           go (Atom h) e = fire_atom h e (has model h) (body_holds model by (rule i).body) refl refl
+
+  pub waits_below : (todo : ℕ → Type 0) (model pending : List ℕ) → Underway rs by bare todo model pending → (a : ℕ) → a ∈ pending → a < n
+  waits_below todo model pending u a m = has_below u.canonical a (u.waiting a m)
 
   -- the last atom that waits is used, and the rules that ask for it are to do
   pub take_last : (model pending : List ℕ) (a : ℕ) → Underway rs by bare Nothing model (pending ++ a ∷ []) → (todo : ℕ → Type 0) →

@@ -65,6 +65,7 @@ impl Ruleset {
 
     // Fires the lines that the atom wakes.
     fn wake(&self, atom: u16, by: &[u8], model: &mut [u8], pending: &mut Stack<u16>)
+        requires below { atom < atoms_in self.now }
         requires atoms { length model.old ≡ atoms_in self.now }
         requires room { pending.old.len + absent model.old ≤ length pending.old.entries.now }
         ensures size { length pending.new.entries.now ≡ length pending.old.entries.now }
@@ -72,7 +73,7 @@ impl Ruleset {
         ensures fewer { absent model.new ≤ absent model.old }
         ensures fired { Advances (rules_in self.now) by.now (λ j. j ∈ slice_index_or (lists_of self.now.index) atom []) Nothing model.old (take pending.old.len pending.old.entries.now) model.new (take pending.new.len pending.new.entries.now) }
     {
-        for number in self.index.woken_by(atom) {
+        for number in &self.index.woken[atom as usize] {
             fire(&self.lines[*number as usize], by, model, pending);
         }
     }

@@ -1,10 +1,11 @@
-use Rattle.std.proofs.Common.{◌≡◌, ℕ, Bool, not, ◌&&◌, ◌||◌, length, ap, ◌∙◌, arith}
+use Rattle.std.proofs.Common.{◌≡◌, ℕ, ◌≤◌, Bool, not, ◌&&◌, ◌||◌, length, ap, ◌∙◌, arith}
 use Rattle.bounds.specs.Unknown.{reads_none}
 use Rattle.bounds.specs.Pairs.{atoms_of}
-use Rattle.bounds.proofs.Outputs.{found, found_passed, found_failed}
+use Rattle.bounds.proofs.Outputs.{found, found_passed, found_failed, found_past}
+use Rattle.bounds.proofs.Tables.{tabled_size}
 use Rattle.bounds.proofs.Standings.{sure_standing, open_standing, never_standing}
 use Rattle.bounds.proofs.bank.query_positions.Goals as goal
-use Rattle.bounds.proofs.bank.query_positions.Goals.{in-Sure, in-Open, in-Never}
+use Rattle.bounds.proofs.bank.query_positions.Goals.{then-atom-given+in-Sure, then-atom-given+in-Open, then-atom-given+in-Never, else-atom-given}
 
 pub loop-position-preserved : goal.loop-position-preserved
 loop-position-preserved g c =
@@ -16,21 +17,27 @@ loop-position-preserved g c =
     let n = length c.clear.new.set in
     let k = c.loop-position.position in
     let inv = c.loop-position.invariant in
-    elim c.match-find_standing.branch [
-      | in-Sure w ↦
+    elim c.if-atom-given.branch [
+      | then-atom-given+in-Sure w ↦
           let s = sure_standing (settles k) (is-given k) w.in-Sure.ensures in
           let e = found_passed m surely n k s.0 in
           let f = found_passed m possibly n k s.1 in
           (cc, cc, cc, cc)
-      | in-Open w ↦
+      | then-atom-given+in-Open w ↦
           let s = open_standing (settles k) (is-given k) w.in-Open.ensures in
           let e = found_failed m surely n k s.0 in
           let f = found_passed m possibly n k s.1 in
           (cc, cc, cc, cc)
-      | in-Never w ↦
+      | then-atom-given+in-Never w ↦
           let s = never_standing (settles k) (is-given k) w.in-Never.ensures in
           let e = found_failed m surely n k s.0 in
           let f = found_failed m possibly n k s.1 in
+          (cc, cc, cc, cc)
+      | else-atom-given w ↦
+          let sized = tabled_size _ n c.loop-position.given.sure.now inv.0 in
+          let past : n ≤ m.atom k = omega arith in
+          let e = found_past m surely n k past in
+          let f = found_past m possibly n k past in
           (cc, cc, cc, cc)
     ]
 

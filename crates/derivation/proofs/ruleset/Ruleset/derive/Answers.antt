@@ -1,14 +1,15 @@
-use Rattle.std.proofs.Common.{◌≡◌, T, [], length, get_or, take, sym, ap, subst, arith}
+use Rattle.std.proofs.Common.{◌≡◌, ◌<◌, T, [], ◌∷◌, ◌++◌, length, get_or, take, sym, refl, ap, subst, inl, arith}
 use Rattle.std.proofs.lemmas.Bool.{ltb-false}
 use Rattle.semantics.specs.Sets.{all, Canonical, ◌∈◌}
 use Rattle.semantics.specs.Rules.{rule_below}
+use Rattle.semantics.proofs.Members.{in_append_right}
 use Rattle.derivation.specs.Indexing.{lists_of}
 use Rattle.derivation.specs.Rulesets.{rules_in, atoms_in}
 use Rattle.derivation.specs.Worklist.{Underway, Nothing}
 use Rattle.derivation.proofs.Keeping.{kept}
 use Rattle.derivation.proofs.Firing.{from_start}
 use Rattle.derivation.proofs.Room.{absent_few}
-use Rattle.derivation.proofs.Working.{take_last, finish}
+use Rattle.derivation.proofs.Working.{take_last, waits_below, finish}
 use Rattle.derivation.proofs.ruleset.Ruleset.derive.Goals as goal
 
 pub fire_all-requires : goal.fire_all-requires
@@ -32,7 +33,19 @@ wake-requires c =
     let inv = c.loop-atom.invariant in
     let popped = c.in-Some.ensures.size in
     let len = c.in-Some.ensures.len in
-    record { atoms = omega arith; room = omega arith }
+    let rs = rules_in c.args.self.now in
+    let by = c.args.by.now in
+    let start = c.args.model.now in
+    let model = c.loop-atom.model in
+    let a = c.in-Some.atom in
+    let left = take c.pop.new.self.len c.pop.new.self.entries.now in
+    let e : atoms_in c.args.self.now ≡ length start = sym c.requires.size in
+    let ruled = subst (λ n. T (all (rule_below n) rs)) e c.args.self.now.below in
+    let canonical = subst (λ n. Canonical n start) e c.requires in
+    let u = from_start rs by start ruled canonical c.new-pending.result.len c.new-pending.result.entries.now c.new-pending.ensures.len _ _ model _ c.fire_all.ensures.fired c.loop-atom.invariant.2 in
+    let waiting = subst (Underway rs by start Nothing model) c.in-Some.ensures.held u in
+    let small : a < length start = waits_below rs by start Nothing model (left ++ a ∷ []) waiting a (in_append_right left (a ∷ []) a (inl refl)) in
+    record { below = omega arith; atoms = omega arith; room = omega arith }
 
 pub loop-atom-preserved : goal.loop-atom-preserved
 loop-atom-preserved c =
