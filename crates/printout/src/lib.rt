@@ -1,18 +1,15 @@
 // The printout: a line for each plan, the count under them, and what is told of each atom; or a fault.
 //
-// Each line ends with the byte 10. Those of a listing are written in the place of what `line` held, so that one buffer
-// serves for all; a fault goes straight to the output, since it may be want of memory. docs/FORMAT.md has the format.
+// Each function writes one whole line, with the byte 10 that ends it, in the place of what `line` held, so that one
+// buffer serves for all lines. docs/FORMAT.md has the format.
 
 #![tactic(auto)]
 
 ghost use Rattle.std.specs.Prelude.{◌≡◌, OnOk};
-ghost use Rattle.std.specs.Io.KnownBytes.{Appends};
 ghost use Rattle.printout.specs.Printed.{plan_line, end_line, tell_line, fault_line, texts};
 
 use sheet::paper::Told;
 use std::alloc::AllocError;
-use std::io;
-use std::io::Write;
 
 // The line of a plan: the names of its atoms in the order of their numbers.
 pub fn plan_line(line: &mut Vec<u8>, names: &[&[u8]], plan: &[u8]) -> Result<(), AllocError>
@@ -54,8 +51,15 @@ pub fn tell_line(line: &mut Vec<u8>, name: &[u8], told: Told) -> Result<(), Allo
 }
 
 // A fault, by its number and its place in the text.
-pub fn fault_line<W: Write>(out: &mut W, number: u8, line: usize, byte: usize) -> io::Result<()>
-    ensures { OnOk result (Appends (W.contents out.old) (W.contents out.new) (fault_line number line byte)) }
+pub fn fault_line(
+    line: &mut Vec<u8>,
+    number: u8,
+    place: usize,
+    byte: usize,
+) -> Result<(), AllocError>
+    ensures { OnOk result (line.new.items ≡ fault_line number place byte) }
 {
-    writeln!(out, "fault,{number},{line},{byte}")
+    let text = format!(in *line.allocator(); "fault,{number},{place},{byte}\n")?;
+    line.clear();
+    line.extend_from_slice(text.as_bytes())
 }

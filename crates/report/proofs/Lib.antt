@@ -1,3 +1,4 @@
+pub mod Opening
 pub mod Lines
 pub mod Steps
 pub mod Printing

@@ -12,7 +12,8 @@ use Rattle.report.specs.declared.lister.Lister.{Lister}
 use Rattle.report.specs.declared.stop.Stop.TheVariants as stop
 use Rattle.report.specs.Printouts.{printout}
 use Rattle.report.specs.Progress.{PrintedSoFar, Prints, MovesOn, lines_out}
-use Rattle.report.specs.Lists.{ListsLines}
+use Rattle.declarations.specs.Shown.{no_memory}
+use Rattle.report.specs.Lists.{ListsLines, Before}
 use Rattle.report.proofs.Printing.{lines_are}
 
 -- the text is accepted, and the output grew by the lines that its lister handed out
@@ -62,3 +63,10 @@ module _ (text : List ℕ) (old out : Option (List ℕ)) (x : Lister) (so_far : 
         | inl h ↦ (printout d, inr (d, so_far.1, inl (ap refused h.0, refl, h.2)), whole (sym h.1))
         | inr m ↦ (take k (printout d), inr (d, so_far.1, inr (ap refused m, k, refl)), so_far.3)
       ]
+
+-- what comes before a fault may come before want of memory as well
+pub before_no_memory : (text : List ℕ) (lines : List (List ℕ)) (e : Refused) → Before text lines e → Before text lines no_memory
+before_no_memory text lines e (inl none) = inl (none.0, inr refl)
+before_no_memory text lines e (inr (d, read, inl cut)) =
+    inr (d, read, inr (refl, length (printout d), cut.1 ∙ sym (take_all (length (printout d)) (printout d) (omega arith))))
+before_no_memory text lines e (inr (d, read, inr ended)) = inr (d, read, inr (refl, ended.1, ended.2))

@@ -1,10 +1,11 @@
 -- What one call prints, from how far the printing has come.
-use Rattle.std.proofs.Common.{◌≡◌, ℕ, ◌+◌, ◌<◌, ◌≤◌, true, List, [], length, get_or, Some, None, Ok, Err, vec_items, Option, unwrap_or, sym, refl, ap, ◌∙◌, subst, ap₂, inl, arith, Bor, Vec}
+use Rattle.std.proofs.Common.{◌≡◌, ℕ, ◌+◌, ◌<◌, ◌≤◌, true, List, [], length, get_or, Some, None, Ok, Err, vec_items, Option, unwrap_or, sym, refl, ap, ◌∙◌, subst, ap₂, arith, Bor, Vec}
 use Rattle.std.specs.declared.alloc.Global.{Global}
 use Rattle.std.specs.Vec.{with_items}
 use Rattle.std.proofs.lemmas.List.{get_or_past, with_items_is}
 use Rattle.std.proofs.lemmas.List.FromFn.{length-map-range_with_len, get_or-map-range_with_len}
 use Rattle.faults.specs.declared.Fault.{Fault}
+use Rattle.faults.specs.declared.Fault.TheVariants.{ListingFull}
 use Rattle.semantics.specs.Rules.{Rule}
 use Rattle.semantics.specs.Modules.{pair_table, Row as PairRow}
 use Rattle.semantics.specs.Plans.{plans, over}
@@ -25,7 +26,7 @@ use Rattle.report.specs.declared.lister.Lister.{Lister}
 use Rattle.report.specs.declared.lister.Stage.{Stage}
 use Rattle.report.specs.declared.lister.Stage.TheVariants.{Plans, Tells}
 use Rattle.report.specs.Printouts.{printout, all_plans, told_line, tell_lines}
-use Rattle.report.specs.Progress.{PrintedSoFar, StandsAt, IsNext, CutShort, lines_out}
+use Rattle.report.specs.Progress.{PrintedSoFar, StandsAt, IsNext, lines_out}
 use Rattle.report.proofs.Lines.{plan_at, end_at, tell_at, length_whole, length_cut_off}
 use Rattle.report.proofs.Steps.{Ends, steps_on, comes_to_end, is_cut_off, when_ended, tells}
 
@@ -144,13 +145,13 @@ module _ (d : Described) (k : ℕ) (x : Lister) (at : PrintedSoFar d k x) (print
 
     -- a million were printed
     pub cut_off_here : (f : Fault) → Stepped (pair_table (rows_of x.sheet.bank)) (contents x.sheet) (contents sheet) before after (Err f) →
-        CutShort d k f
+        (f ≡ ListingFull) × (k ≡ length (printout d)) × (1_000_000 ≤ length (all_plans d))
     cut_off_here f called =
         let h = is_cut_off (pair_table d.rows) (contents x.sheet) (contents sheet) (length (vec_items x.plan)) (laid d k x at) (fits d k x at) at.sound f (answered called) in
         let n = ap length (in_force_are d k x at) in
         let many : 1_000_000 ≤ length (all_plans d) = omega arith in
         let l = length_cut_off (plan_line d.names) (end_line (length (all_plans d))) (tell_lines d) (all_plans d) many in
-        inl (h.0, omega (arith, so_far), many)
+        (h.0, omega (arith, so_far), many)
 
     module _ (step : Step) (taken : Stepped (pair_table (rows_of x.sheet.bank)) (contents x.sheet) (contents sheet) before after (Ok step)) where
       sound_after : Sound (pair_table d.rows) (contents sheet)

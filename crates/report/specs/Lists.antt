@@ -37,3 +37,7 @@ abbrev pub ListsLines : List ℕ → Option (List ℕ) → Option (List ℕ) →
 ListsLines text old new (Ok done) = ListsWhole text old new
 ListsLines text old new (Err (stop.Refused e)) = (lines : List (List ℕ)) × Before text lines e × Appends old new (concat lines)
 ListsLines text old new (Err (stop.Outside e)) = ⊤
+
+-- the output grew by the line of the fault, or by that of want of memory, which is the fault then
+abbrev pub PrintsFault : Refused → Option (List ℕ) → Option (List ℕ) → Refused → Type 0
+PrintsFault refused old new e = ((e ≡ refused) ⊎ (e ≡ no_memory)) × Appends old new (fault_line (number_of e.fault) e.line e.byte)

@@ -1,10 +1,14 @@
 // Prints the whole printout of a text.
-ghost use Rattle.report.specs.Lists.{Lists, ListsLines};
+ghost use Rattle.std.specs.Prelude.{IfOk};
+ghost use Rattle.report.specs.Lists.{Lists, ListsLines, PrintsFault};
 
 use crate::open::open;
 use crate::stop::Stop;
+use faults::Fault;
 use printout::fault_line;
+use records::refusal::Refused;
 use std::alloc::Global;
+use std::io;
 use std::io::Write;
 
 // Every line of the printout; or what comes before a fault, and then the fault.
@@ -13,8 +17,8 @@ pub fn list<W: Write>(heap: Global, text: &[u8], out: &mut W) -> Result<(), Stop
 {
     match list_lines(heap, text, out) {
         Err(Stop::Refused(refused)) => {
-            fault_line(out, refused.fault.number(), refused.line, refused.byte)?;
-            Err(Stop::Refused(refused))
+            let printed = print_fault(heap, refused, out)?;
+            Err(Stop::Refused(printed))
         }
         listed => listed,
     }
@@ -29,4 +33,26 @@ fn list_lines<W: Write>(heap: Global, text: &[u8], out: &mut W) -> Result<(), St
         out.write_all(line)?;
     }
     Ok(())
+}
+
+// Writes the line of the fault at once, or that of want of memory where there is none for it. Which it was.
+fn print_fault<W: Write>(heap: Global, refused: Refused, out: &mut W) -> io::Result<Refused>
+    ensures { IfOk result (PrintsFault refused (W.contents out.old) (W.contents out.new)) }
+{
+    let mut line = Vec::new(heap);
+    match fault_line(
+        &mut line,
+        refused.fault.number(),
+        refused.line,
+        refused.byte,
+    ) {
+        Ok(()) => {
+            out.write_all(line.as_slice())?;
+            Ok(refused)
+        }
+        Err(_) => {
+            out.write_all(b"fault,0,0,0\n")?;
+            Ok(Refused::from(Fault::Memory))
+        }
+    }
 }

@@ -6,7 +6,7 @@ use faults::Fault;
 use records::refusal::Refused;
 use std::io;
 
-#[derive(Drop)]
+#[derive(Debug, Drop)]
 pub enum Stop {
     // a fault, which is the last line that is printed
     Refused(Refused),

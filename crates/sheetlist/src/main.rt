@@ -19,9 +19,13 @@ fn read_text(rt: &HostRuntime) -> Result<Vec<u8>, Stop> {
 fn print_list(rt: &HostRuntime) -> Result<(), Stop> {
     let text = read_text(rt)?;
     let mut out = BufWriter::new(rt.alloc(), rt.stdout())?;
-    let listed = list(rt.alloc(), &text, &mut out);
-    out.flush()?;
-    listed
+    match list(rt.alloc(), &text, &mut out) {
+        Err(Stop::Outside(error)) => Err(Stop::Outside(error)),
+        listed => {
+            out.flush()?;
+            listed
+        }
+    }
 }
 
 // Quiet on standard error: a refusal was printed, and a failed read or write, or want of memory, shows by the status.

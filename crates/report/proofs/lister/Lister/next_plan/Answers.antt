@@ -1,4 +1,4 @@
-use Rattle.std.proofs.Common.{◌∙◌, ap₂}
+use Rattle.std.proofs.Common.{◌∙◌, ap₂, inl}
 use Rattle.std.proofs.lemmas.Result.{err_from_is_err_and}
 use Rattle.sheet.specs.Calls.{tally_of}
 use Rattle.printout.specs.Printed.{plan_line}
@@ -9,8 +9,8 @@ pub returns-in_err-next : goal.returns-in_err-next
 returns-in_err-next c d k at plans =
     let p = err_from_is_err_and c.from_residual.result c.from_residual.ensures.1 in
     rw (p.1, p.2)
-    (cut_off_here d k c.args.self.now at plans c.next.new.self c.as_mut_slice.result.now c.next.new.buffer
-    c.as_mut_slice.ensures.value c.next.auto.buffer c.next.ensures.same c.in_err-next.field-0.0 c.in_err-next.ensures.stepped)
+    (inl (cut_off_here d k c.args.self.now at plans c.next.new.self c.as_mut_slice.result.now c.next.new.buffer
+    c.as_mut_slice.ensures.value c.next.auto.buffer c.next.ensures.same c.in_err-next.field-0.0 c.in_err-next.ensures.stepped))
 
 pub returns-in_ok-plan_line-in-Plan : goal.returns-in_ok-plan_line-in-Plan
 returns-in_ok-plan_line-in-Plan c d k at plans =
