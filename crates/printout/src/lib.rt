@@ -1,15 +1,18 @@
 // The printout: a line for each plan, the count under them, and what is told of each atom; or a fault.
 //
-// Each function writes one whole line, with the byte 10 that ends it, in the place of what `line` held, so that one
-// buffer serves for all lines. docs/FORMAT.md has the format.
+// Each line ends with the byte 10, and takes the place of what `line` held, so that one buffer serves for all lines;
+// `fault_line` alone adds its line to an output. docs/FORMAT.md has the format.
 
 #![tactic(auto)]
 
 ghost use Rattle.std.specs.Prelude.{◌≡◌, OnOk};
+ghost use Rattle.std.specs.Io.KnownBytes.{Appends};
 ghost use Rattle.printout.specs.Printed.{plan_line, end_line, tell_line, fault_line, texts};
 
 use sheet::paper::Told;
 use std::alloc::AllocError;
+use std::io;
+use std::io::Write;
 
 // The line of a plan: the names of its atoms in the order of their numbers.
 pub fn plan_line(line: &mut Vec<u8>, names: &[&[u8]], plan: &[u8]) -> Result<(), AllocError>
@@ -51,7 +54,7 @@ pub fn tell_line(line: &mut Vec<u8>, name: &[u8], told: Told) -> Result<(), Allo
 }
 
 // A fault, by its number and its place in the text.
-pub fn fault_line(
+pub fn fault_line_into(
     line: &mut Vec<u8>,
     number: u8,
     place: usize,
@@ -62,4 +65,29 @@ pub fn fault_line(
     let text = format!(in *line.allocator(); "fault,{number},{place},{byte}\n")?;
     line.clear();
     line.extend_from_slice(text.as_bytes())
+}
+
+// The same line added to any output. It asks for no heap of its own, and goes out in pieces: where a write fails, part
+// of it may stand.
+pub fn fault_line<W: Write>(out: &mut W, number: u8, line: usize, byte: usize) -> io::Result<()>
+    ensures { OnOk result (Appends (W.contents out.old) (W.contents out.new) (fault_line number line byte)) }
+{
+    writeln!(out, "fault,{number},{line},{byte}")
+}
+
+#[cfg(test)]
+mod tests {
+    use super::*;
+    use std::test::Fail;
+
+    #[test]
+    fn fault_line_adds_to_an_output(rt: HostRuntime) -> Result<(), Fail> {
+        let mut out = Vec::new(rt.alloc());
+        out.extend_from_slice(b"plan,gauge,bare\n")?;
+        fault_line(&mut out, 22, 3, 6)?;
+        fault_line(&mut out, 13, 0, 0)?;
+        let want: &[u8] = b"plan,gauge,bare\nfault,22,3,6\nfault,13,0,0\n";
+        assert_eq!(rt; out.as_slice(), want);
+        Ok(())
+    }
 }

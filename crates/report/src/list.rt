@@ -5,7 +5,7 @@ ghost use Rattle.report.specs.Lists.{Lists, ListsLines, PrintsFault};
 use crate::open::open;
 use crate::stop::Stop;
 use faults::Fault;
-use printout::fault_line;
+use printout::fault_line_into;
 use records::refusal::Refused;
 use std::alloc::Global;
 use std::io;
@@ -40,7 +40,7 @@ fn print_fault<W: Write>(heap: Global, refused: Refused, out: &mut W) -> io::Res
     ensures { IfOk result (PrintsFault refused (W.contents out.old) (W.contents out.new)) }
 {
     let mut line = Vec::new(heap);
-    match fault_line(
+    match fault_line_into(
         &mut line,
         refused.fault.number(),
         refused.line,
